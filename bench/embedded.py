@@ -103,7 +103,7 @@ def measured(program, library, trips, rounds, optimized=True):
     with tempfile.TemporaryDirectory() as name:
         folder = Path(name)
         (folder / "lines").write_text("\n".join(publications()) + "\n", encoding="ascii")
-        given = {**os.environ, "REGISTRYD_LIBRARY": str(Path(library) / "libregistryd.so")}
+        given = {**os.environ, "REGISTRYD_LIBRARY": str(Path(library) / "libregistryd.so"), "PYTHONPATH": str(TOP / "clients" / "python")}
         rows = [Row(language, way, command) for language, command in compiled(folder, library, optimized).items() for way in WAYS]
         with listening(program, folder / "socket") as path:
             targets = {"embedded": "-", "child": program, "socket": path}

@@ -2,14 +2,12 @@
 the tests that need it are skipped then, and counted.
 
     python3 -m dev.install_packages          root installs what lacks
-    python3 -m dev.install_packages --list   the packages as words for apt-get install
 """
+import contextlib
 import os
 import shutil
-import signal
 import subprocess
 import sys
-import tempfile
 from dataclasses import dataclass
 
 LIST = os.path.join(os.path.dirname(os.path.dirname(os.path.abspath(__file__))), "tools", "debian_packages.txt")
@@ -48,28 +46,18 @@ def listed(path=LIST):
 
 def answer(*words):
     """What a command prints; nothing where it fails or is not there."""
-    try:
-        done = subprocess.run(words, stdin=subprocess.DEVNULL, stdout=subprocess.PIPE, stderr=subprocess.DEVNULL, text=True, timeout=60)
-    except (OSError, subprocess.TimeoutExpired):
-        return ""
-    return done.stdout if done.returncode == 0 else ""
+    with contextlib.suppress(OSError):
+        return subprocess.run(words, stdin=subprocess.DEVNULL, capture_output=True, text=True, check=False).stdout
+    return ""
 
 
-def fault_of(words, seconds):
-    """Runs apt-get; answers why it failed, or nothing where it did what it was to do. It and what it began end in so many seconds."""
-    with tempfile.TemporaryFile("w+", errors="replace") as told:
-        given = {**os.environ, "DEBIAN_FRONTEND": "noninteractive"}
-        with subprocess.Popen([*APT, *words], env=given, stdin=subprocess.DEVNULL, stdout=told, stderr=told, start_new_session=True) as running:
-            try:
-                status = running.wait(seconds)
-            except subprocess.TimeoutExpired:
-                os.killpg(running.pid, signal.SIGKILL)
-                return f"apt-get {words[0]} took more than {seconds} seconds"
-        told.seek(0)
-        lines = told.read().splitlines()
-    if status == 0:
-        return None
-    return next((line for line in lines if line.startswith("E: ")), f"apt-get {words[0]} ended with status {status}")
+def fault_of(seconds, *words):
+    """Runs apt-get, and ends it in so many seconds with what it began; answers why it failed, or nothing."""
+    done = subprocess.run(["timeout", "--kill-after=5", str(seconds), *APT, *words], stdin=subprocess.DEVNULL,
+                          stdout=subprocess.PIPE, stderr=subprocess.STDOUT, text=True, errors="replace", check=False,
+                          env={**os.environ, "DEBIAN_FRONTEND": "noninteractive"})
+    said = [line for line in done.stdout.splitlines() if line.startswith("E: ")]
+    return [*said, f"apt-get {words[0]} ended with status {done.returncode}"][0] if done.returncode else None
 
 
 def install(packages):
@@ -78,18 +66,13 @@ def install(packages):
         return "there is no apt-get"
     if os.geteuid() != 0:
         return f"only root installs them: apt-get install {' '.join(package.names[0] for package in packages)}"
-    if fault := fault_of(["update"], UPDATE):
+    if fault := fault_of(UPDATE, "update"):
         return fault
     names = [next((name for name in package.names if answer("apt-cache", "show", name)), None) for package in packages]
-    unknown = [package.names[0] for package, name in zip(packages, names) if not name]
-    fault = fault_of(["install", "-y", "--no-install-recommends", *filter(None, names)], INSTALL) if any(names) else None
-    return fault or (f"this machine's Debian has no {', '.join(unknown)}" if unknown else None)
+    return fault_of(INSTALL, "install", "-y", "--no-install-recommends", *filter(None, names))
 
 
 def main(words):
-    if words == ["--list"]:
-        print(" ".join(package.names[0] for package in listed()))
-        return 0
     if words:
         print(__doc__, file=sys.stderr)
         return 2
@@ -99,7 +82,7 @@ def main(words):
     new = ", ".join(package.name() for package in before if package not in after)
     lacking = ", ".join(package.names[0] for package in after)
     told = [f"installed {new}"] if new else []
-    told += [f"the tests lack {lacking}: {fault or 'apt-get installed nothing that does'}"] if lacking else []
+    told += [f"the tests lack {lacking}: {fault or 'this Debian has none that does'}"] if lacking else []
     print("install_packages: " + ("; ".join(told) or "all that the tests need is there"))
     return 1 if lacking else 0
 

@@ -1,36 +1,42 @@
-"""Completion: what may stand at the end of a command line, by the table, and the few lines of each shell that ask for it."""
+"""Completion: what may stand at the end of a command line of `registry`, by the table, or of `registryd`, and the few
+lines of each shell that ask for it."""
 from .command_line import split
 from .failures import Failure
 from .table import COMMON, FILE, FOLDER, NEED, PACKAGE, SUBCOMMANDS, VERSION
 
-# each asks `registry --complete WORD ..`: the first line answered says what may stand there, the others are words
+# Each asks `registry --complete WORD ..`, of the program's words with `registryd` before them: the first line answered
+# says what may stand there, the others are words.
 SCRIPTS = {
     "bash": r"""_registry() {
-    local current=${COMP_WORDS[COMP_CWORD]} told
-    mapfile -t told < <("$1" --complete "${COMP_WORDS[@]:1:COMP_CWORD}" 2>/dev/null)
+    local current=${COMP_WORDS[COMP_CWORD]} told program=
+    case $1 in *registryd) program=registryd ;; esac
+    mapfile -t told < <("${1%d}" --complete $program "${COMP_WORDS[@]:1:COMP_CWORD}" 2>/dev/null)
     case ${told[0]} in
-        file) compopt -o filenames; mapfile -t COMPREPLY < <(compgen -f -- "$current") ;;
-        folder) compopt -o filenames; mapfile -t COMPREPLY < <(compgen -d -- "$current") ;;
+        file) compopt -o filenames; mapfile -t COMPREPLY < <(compgen -f -- "${current#=}") ;;
+        folder) compopt -o filenames; mapfile -t COMPREPLY < <(compgen -d -- "${current#=}") ;;
         *) COMPREPLY=("${told[@]:1}") ;;
     esac
 }
-complete -F _registry registry
+complete -F _registry registry registryd
 """,
-    "zsh": r"""#compdef registry
+    "zsh": r"""#compdef registry registryd
 _registry() {
-    local -a told
-    told=("${(@f)$($words[1] --complete "${(@)words[2,CURRENT]}" 2>/dev/null)}")
+    local -a told program
+    [[ $words[1] != *registryd ]] || program=(registryd)
+    told=("${(@f)$(${words[1]%d} --complete $program "${(@)words[2,CURRENT]}" 2>/dev/null)}")
     case $told[1] in
         file) _files ;;
         folder) _files -/ ;;
         *) compadd -- "${(@)told[2,-1]}" ;;
     esac
 }
-if [ "$funcstack[1]" = _registry ]; then _registry "$@"; else compdef _registry registry; fi
+if [ "$funcstack[1]" = _registry ]; then _registry "$@"; else compdef _registry registry registryd; fi
 """,
     "fish": r"""function __registry_told
     set -l words (commandline -opc) (commandline -ct)
-    set -l told ($words[1] --complete $words[2..-1] 2>/dev/null)
+    set -l program (string match -r 'registryd$' -- $words[1])
+    set -l told (string replace -r 'd$' '' -- $words[1])
+    set told ($told --complete $program $words[2..-1] 2>/dev/null)
     switch "$told[1]"
         case file
             __fish_complete_path (commandline -ct)
@@ -40,8 +46,15 @@ if [ "$funcstack[1]" = _registry ]; then _registry "$@"; else compdef _registry 
             printf '%s\n' $told[2..-1]
     end
 end
-complete -c registry -f -a '(__registry_told)'
+complete -c registry -c registryd -f -a '(__registry_told)'
 """,
+}
+# the words of the program: the options of each command with what they take
+PROGRAM = {
+    "serve": {"--workers": tuple("1 2 4 8 16 32 64".split()), "--journal": FILE, "--load": FILE, "--save": FILE,
+              "--budget": tuple("100 1000 10000 100000".split()), "--newest": None},
+    "race": {"--newest": None},
+    "help": {},
 }
 GENERAL = ("--help", "--version")
 UNBOUNDED = 10 ** 9  # words that an option takes
@@ -49,14 +62,30 @@ UNBOUNDED = 10 ** 9  # words that an option takes
 
 def complete(words):
     """The lines that are answered for words of which the last one is being typed: `file`, `folder` or `words`, then words."""
-    *before, current = words or [""]
-    before = before[before[:1] == ["help"]:]
-    kind, offered = candidates(before, current)
-    return [kind, *sorted({it for it in offered if it.startswith(current)})]
+    is_program = words[:1] == ["registryd"]
+    *before, current = words[is_program:] or [""]
+    before = [it for it in before if it != "="]  # bash takes the sign of --option=VALUE for a word
+    flag, sign, value = current.rpartition("=" if current.startswith("-") or current == "=" else "\n")
+    kind, offered = (of_program if is_program else candidates)([*before, flag] if flag else before, value)
+    whole = flag + sign if flag else ""
+    return [kind, *sorted({whole + it for it in offered if it.startswith(value)})]
+
+
+def of_program(before, current):
+    """What may stand behind some words of the program, and those words that are known."""
+    of = next((it for it in before if it in PROGRAM), None)
+    if of is None:
+        return "words", [*PROGRAM, *GENERAL]
+    if PROGRAM[of].get(before[-1]):
+        return of_kind(PROGRAM[of][before[-1]], before, None)
+    if of == "race" and not current.startswith("-"):
+        return FILE, []
+    return "words", [*(it for it in PROGRAM[of] if it not in before), "--help"] if PROGRAM[of] else ["serve", "race"]
 
 
 def candidates(before, current):
     """What may stand behind some words, and those words that are known."""
+    before = before[before[:1] == ["help"]:]
     valued = {it.flag: it for it in COMMON if it.names}
     if before and before[-1] in valued:
         return of_kind(valued[before[-1]].takes, before, None)

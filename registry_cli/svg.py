@@ -5,13 +5,9 @@ import html
 NARROW, WIDE = set("fijlrt.,:;'|!()[] -"), set("mwMW@%")
 
 
-def plain_text(x, y, said, size, colour="#222222", anchor="middle"):
-    """A text that is escaped already."""
-    return f'<text x="{x:.0f}" y="{y:.0f}" font-size="{size}" fill="{colour}" text-anchor="{anchor}">{said}</text>'
-
-
 def text(x, y, said, size, colour="#222222", anchor="start"):
-    return plain_text(x, y, html.escape(said, quote=False), size, colour, anchor)
+    said = html.escape(said, quote=False)
+    return f'<text x="{x:.0f}" y="{y:.0f}" font-size="{size}" fill="{colour}" text-anchor="{anchor}">{said}</text>'
 
 
 def width(said, size):

@@ -21,12 +21,16 @@ MOST_GUESSED = 0.9
 TICK = 1.0
 
 
-def crates_below(name=None):
-    """The crates of crates.txt, each after those that it stands on; those of one crate and below it, if that is named."""
+def stands_on():
+    """What crates.txt says each crate stands on."""
     with open(os.path.join(TOP, "crates.txt"), encoding="utf-8") as lines:
         said = [line.split("#")[0].partition(":") for line in lines]
-    needs = {head.split()[0]: needs.split() for head, colon, needs in said if colon}
-    found = []
+    return {head.split()[0]: below.split() for head, colon, below in said if colon}
+
+
+def crates_below(name=None):
+    """The crates of crates.txt, each after those that it stands on; those of one crate and below it, if that is named."""
+    needs, found = stands_on(), []
 
     def take(crate):
         for below in needs[crate]:

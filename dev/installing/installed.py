@@ -12,7 +12,6 @@ from dataclasses import dataclass
 
 from dev.building import c_library, programs
 from dev.building.programs import NAME, TOP
-from dev.installing import completions
 from dev.installing.prefix import Refused
 from registry_cli import completion, manual
 
@@ -45,12 +44,9 @@ PAGES = {
 SYSTEMD = {"lib/systemd/system/registryd.service": "dev/installing/systemd/registryd.service", "lib/sysusers.d/registryd.conf": "dev/installing/systemd/registryd.sysusers"}
 # Manual pages, each with the other names that it is found by.
 MANUALS = {"docs/registryd.1": [], "docs/registry-tools.1": list(TOOLS)}
-# Where each shell looks for completions of a command, below a prefix and where a distribution's package has them.
-COMPLETIONS = {
-    "bash": ("share/bash-completion/completions/{}", "share/bash-completion/completions/{}"),
-    "zsh": ("share/zsh/site-functions/_{}", "share/zsh/vendor-completions/_{}"),
-    "fish": ("share/fish/vendor_completions.d/{}.fish", "share/fish/vendor_completions.d/{}.fish"),
-}
+# Where each shell looks for completions of a command.
+COMPLETIONS = {"bash": "share/bash-completion/completions/{}", "zsh": "share/zsh/site-functions/_{}",
+               "fish": "share/fish/vendor_completions.d/{}.fish"}
 TOLD = {
     programs.PROVED: "The program is proved: all its sources were proved before it was built.",
     programs.COMPILED: "The program is compiled from its sources, with checks as it runs. It is not proved.",
@@ -202,10 +198,13 @@ def systemd_pieces(prefix):
         yield Piece(path, (TOP / source).read_text(encoding="utf-8").replace("@PREFIX@", where).encode())
 
 
-def pieces(program, prefix="/usr", is_packaged=False, library=None):
-    """All that is installed, for one program below a prefix, and with a library for C, if there is one; a distribution's package has
-    it in its own places."""
-    scripts = {NAME: {shell: text() for shell, text in completions.SHELLS.items()}, COMMAND: completion.SCRIPTS}
-    shells = [Piece(COMPLETIONS[shell][is_packaged].format(name), text.encode()) for name, of in scripts.items() for shell, text in of.items()]
+def pieces(program, prefix="/usr", library=None):
+    """All that is installed, for one program below a prefix, and with a library for C, if there is one."""
+    shells = []
+    for shell, text in completion.SCRIPTS.items():
+        places = [COMPLETIONS[shell].format(name) for name in (COMMAND, NAME)]
+        shells.append(Piece(places[0], text.encode()))
+        if shell != "zsh":  # the same one completes both; zsh finds it by the words of its first line
+            shells.append(Piece(places[1], link=posixpath.basename(places[0])))
     return sorted([*program_pieces(program), *library_pieces(library), *command_pieces(), *tool_pieces(), *page_pieces(),
                    *systemd_pieces(prefix), *shells], key=lambda it: it.path)

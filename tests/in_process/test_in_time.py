@@ -14,7 +14,7 @@ from tests.support import client_python, program
 from tests.support.program import children, in_time
 from tests.support.services import wait_for
 
-SECONDS = 0.3
+SECONDS = 1.0
 LATEST = 30  # seconds in which a test has failed that waits no longer than those, on a busy machine too
 # Programs that never reply: one waits for all lines before it would, one reads nothing, one writes without an end and no line.
 READS = f"exec {sys.executable} -c 'import sys; print(len(sys.stdin.read()))'"

@@ -23,7 +23,7 @@ class Case(unittest.TestCase):
         open(os.environ["NOTE"], "w").close()
 """
 # A test that takes long.
-LONG = "import pytest, unittest\npytestmark = pytest.mark.not_quick('it is long')\n" \
+LONG = 'import pytest, unittest\npytestmark = pytest.mark.not_quick("it is long")\n' \
        "class Case(unittest.TestCase):\n    def test_d(self):\n        pass\n"
 LAST = "import unittest\nclass Case(unittest.TestCase):\n    def test_b(self):\n        pass\n"
 

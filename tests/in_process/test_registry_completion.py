@@ -7,7 +7,7 @@ import unittest
 from types import SimpleNamespace
 from unittest import mock
 
-from registry_cli import completion, line_completion, refusals, session, table
+from registry_cli import completion, line_completion, refusals, session
 from registry_cli.failures import Failed
 
 PACKAGES = {"log": ["1.0.0", "1.1.0"], "lock": ["2.0.0"], "app": ["1.0.0"]}
@@ -33,6 +33,16 @@ OFFERED = [
     (["resolve", "--budget", "5", "a"], ["app"]), (["resolve", "--newest", "a"], ["app"]), (["serve", "--mode", ""], ["600", "660", "666"]), (["serve", "--mode", "66"], ["660", "666"]),
     (["why", "--not", ""], ["app", "lock", "log"]), (["why", "--not", "log", ""], ["1.0.0", "1.1.0"]), (["why", "--not", "log", "1.0.0", "a"], ["app"]),
     (["why", "a", "--u"], ["--unfolded"]), (["diff", "--"], sorted([*COMMON, "--exit-status"])), (["upgrade", "log", "lo"], ["lock", "log"]), (["upgrade", "--need", "app", "lo"], ["lock", "log"]),
+    (["list", "--color=a"], ["--color=always", "--color=auto"]), (["list", "--color", "=", "a"], ["always", "auto"]),
+    (["list", "--color", "="], ["always", "auto", "never"]), (["list", "--journal", "="], "file"),
+    (["registryd"], ["--help", "--version", "help", "race", "serve"]), (["registryd", "s"], ["serve"]),
+    (["registryd", "serve", "--w"], ["--workers"]), (["registryd", "serve", "x"], []),
+    (["registryd", "race", "--"], ["--help", "--newest"]), (["registryd", "help", ""], ["race", "serve"]),
+    (["registryd", "serve", "--workers", "2", "--load", "a", "--"],
+     ["--budget", "--help", "--journal", "--newest", "--save"]),
+    (["registryd", "serve", "--workers", "6"], ["64"]), (["registryd", "serve", "--workers", "=", "6"], ["64"]),
+    (["registryd", "serve", "--workers=6"], ["--workers=64"]), (["registryd", "race", "first.lines", "s"], "file"),
+    *((["registryd", "serve", it, sign], "file") for it in ("--journal", "--load", "--save") for sign in ("", "=")),
 ]
 
 
@@ -61,18 +71,6 @@ class Words(unittest.TestCase):
                                   (["yank", "zebra", ""], []), (["--journal", "none", "show", ""], []), (["list", ""], [])):
                 self.assertEqual(completion.complete(words), ["words", *wanted], words)
         self.assertEqual(asked, [(None, None), ("j", None), (None, "c"), (None, None), ("none", None)])
-
-
-    def test_what_each_shell_is_told(self):
-        # each asks by --complete with what it has of the line, and says for which command: see bash(1), compsys of zshcompsys(1), and complete(1) of fish
-        for shell, last in (("bash", "complete -F _registry registry"), ("zsh", "compdef _registry registry"), ("fish", "complete -c registry -f -a '(__registry_told)'")):
-            script = completion.SCRIPTS[shell]
-            self.assertIn(" --complete ", script)
-            self.assertIn(last, script.splitlines()[-1])
-            for kind in (table.FILE, table.FOLDER):
-                self.assertRegex(script, rf"\b{kind}(\)|\n)")
-        self.assertEqual(completion.SCRIPTS["zsh"].splitlines()[0], "#compdef registry")
-        self.assertEqual([*completion.SCRIPTS], ["bash", "zsh", "fish"])
 
 
 class Lines(unittest.TestCase):

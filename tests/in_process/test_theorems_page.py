@@ -1,4 +1,4 @@
-"""What docs/THEOREMS.md shows of the sources under "What an answer is" stands there word for word, each with one sentence before it."""
+"""What docs/THEOREMS.md shows of the sources under "What an answer is" stands there word for word."""
 import os
 import re
 import textwrap
@@ -6,7 +6,6 @@ import unittest
 from pathlib import Path
 
 from tests.in_process.test_map import read
-from tests.support import prose
 from tests.support.program import TOP
 
 SHOWN = {"Answer", "IsAnswer", "IsNewest", "AreBest", "IsTurn", "one_answer", "OneAnswer", "some_answer", "SomeAnswer"}
@@ -15,10 +14,9 @@ BLOCK = re.compile(r"(?m)(?:^    .*\n)+")
 
 
 def shown(text):
-    """The blocks of the section, each with the paragraph before it."""
+    """The blocks of the section."""
     part = text.partition(f"{TITLE}\n")[2].partition("\n## ")[0] + "\n"
-    before = [piece.rstrip().rpartition("\n\n")[2] for piece in BLOCK.split(part)]
-    return [(textwrap.dedent(block).rstrip("\n"), told) for block, told in zip(BLOCK.findall(part), before)]
+    return [textwrap.dedent(block).rstrip("\n") for block in BLOCK.findall(part)]
 
 
 def stands(block, texts):
@@ -40,15 +38,12 @@ class Theorems(unittest.TestCase):
         cls.texts = [read(path) for path in (*crate.glob("specs/*.antt"), *crate.glob("src/*.rt"))]
 
     def test_each_block_stands_in_the_sources(self):
-        self.assertEqual([block for block, _ in self.blocks if not stands(block, self.texts)], [])
-        self.assertEqual({name_of(block) for block, _ in self.blocks}, SHOWN)
+        self.assertEqual([block for block in self.blocks if not stands(block, self.texts)], [])
+        self.assertEqual({name_of(block) for block in self.blocks}, SHOWN)
         self.assertEqual(len(self.blocks), len(SHOWN))
 
-    def test_one_sentence_leads_to_each(self):
-        self.assertEqual([told for _, told in self.blocks if len(list(prose.sentences(told))) != 1], [])
-
     def test_a_block_that_is_changed_or_cut_is_found(self):
-        for block, _ in self.blocks:
+        for block in self.blocks:
             self.assertFalse(stands(block[:-1], self.texts), block)
             self.assertFalse(stands(block[1:], self.texts), block)
             lines = block.splitlines()

@@ -13,7 +13,7 @@ from dev.building.programs import COMPILED, PROVED, Program
 from dev.installing import install as command
 from dev.installing import installed, prefix
 from dev.installing.installed import Piece, pieces
-from dev.installing.prefix import Refused, install, remove
+from dev.installing.prefix import install, remove
 from tests.program.test_readme import blocks
 from tests.support.called import called
 from tests.support.library import FOLDER, LACKING
@@ -74,7 +74,7 @@ class Whole(unittest.TestCase):
                      "lib/registryd/registry_cli/page/files/page.html", "lib/registryd/registry_etcd/front.py",
                      "share/man/man1/registryd.1", "share/man/man1/registry.1", "share/man/man1/registry-tools.1",
                      "share/bash-completion/completions/registry", "share/zsh/site-functions/_registry", "share/fish/vendor_completions.d/registry.fish",
-                     "share/bash-completion/completions/registryd", "share/zsh/site-functions/_registryd",
+                     "share/bash-completion/completions/registryd",
                      "share/fish/vendor_completions.d/registryd.fish",
                      "share/registryd/lines.schema.json", "share/registryd/registry.schema.json", "share/doc/registryd/FORMATS.md",
                      "share/registryd/clients/python/registryd/__init__.py", "share/registryd/clients/c/registryd.h",
@@ -118,13 +118,6 @@ class Whole(unittest.TestCase):
                             (["./registryd"], {"cwd": self.bin}), (["../the prefix/bin/registryd"], {"cwd": self.prefix})):
             done = run([*words, "serve", "--workers", "1"], LIST, **more)
             self.assertEqual((done.returncode, done.stdout, done.stderr), (0, reply, ""), words)
-
-    def test_the_programs_own_words_are_passed(self):
-        done = run([self.bin / "registryd", "serve", "--version"])
-        self.assertEqual((done.returncode, done.stdout), (2, ""))
-        self.assertIn("unexpected argument '--version' found", done.stderr)
-        done = run([self.bin / "registryd", "help", "serve"])
-        self.assertEqual((done.returncode, done.stderr), (0, ""))
 
     def test_the_version_whatever_follows(self):
         told = run([self.bin / "registryd", "--version"]).stdout
@@ -175,16 +168,11 @@ class Whole(unittest.TestCase):
         self.assertEqual([it for it in loaded if "__pycache__" not in it], [])
         self.assertEqual(below(self.prefix), before)
 
-    def test_the_links_of_pages_lead_somewhere(self):
-        count = 0
-        for page in [*self.prefix.rglob("*.md")]:
-            for target in re.findall(r"\]\(([^)#]+)", page.read_text(encoding="utf-8")):
-                if "://" not in target:
-                    self.assertTrue((page.parent / target).exists(), f"{page}: {target}")
-                    count += 1
-        self.assertGreater(count, 20)
-
-    def test_each_manual_page_is_found(self):
+    def test_the_links_of_pages_lead_somewhere_and_each_command_has_a_manual_page(self):
+        found = [(page, target) for page in self.prefix.rglob("*.md")
+                 for target in re.findall(r"\]\(([^)#]+)", page.read_text(encoding="utf-8")) if "://" not in target]
+        self.assertEqual([it for it in found if not (it[0].parent / it[1]).exists()], [])
+        self.assertGreater(len(found), 20)
         for name in ("registryd", *TOOLS):
             self.assertTrue((self.prefix / f"share/man/man1/{name}.1").exists(), name)
 
@@ -236,11 +224,6 @@ class Version(Case):
             self.assertIn(re.sub("^", "    ", self.told(PROVED), flags=re.M).rstrip() + "\n", page)
             self.assertIn(f"`{self.told(COMPILED).splitlines()[1]}`", page)
 
-    def test_it_stays_as_it_was_installed(self):
-        before = self.told(COMPILED)
-        with mock.patch.object(installed.programs, "commit", lambda: "another"):
-            self.assertEqual(run([self.prefix / "bin/registryd", "--version"]).stdout, before)
-
     def test_it_needs_no_kit_no_python_and_no_git(self):
         install(self.prefix, self.pieces())
         found = self.folder / "found"
@@ -256,41 +239,10 @@ class Version(Case):
 
 
 class Places(Case):
-    def test_what_was_there_stays(self):
-        (self.prefix / "bin").mkdir(parents=True)
-        (self.prefix / "bin/other").write_text("mine", encoding="ascii")
-        before = below(self.folder)
-        install(self.prefix, self.pieces())
-        self.assertEqual(remove(self.prefix), [])
-        self.assertEqual(below(self.folder), before)
-
-    def test_a_prefix_that_was_made_goes_too(self):
-        before = below(self.folder)
-        install(self.prefix, self.pieces())
-        self.assertEqual(remove(self.prefix), [])
-        self.assertEqual(below(self.folder), before)
-
     def test_nothing_outside_of_the_prefix_is_written(self):
         before = below(self.folder)
         install(self.prefix, self.pieces())
         self.assertEqual({it for it in below(self.folder) if not it.startswith("the prefix/")}, before)
-
-    def test_what_others_put_there_stays(self):
-        install(self.prefix, self.pieces())
-        (self.prefix / "share/man/man1/other.1").write_text("mine", encoding="ascii")
-        (self.prefix / "share/registryd/clients/python/__pycache__").mkdir()
-        (self.prefix / "share/registryd/clients/python/__pycache__/registryd.pyc").write_bytes(b"kept by Python")
-        stays = remove(self.prefix)
-        self.assertEqual(below(self.prefix), {"share/", "share/man/", "share/man/man1/", "share/man/man1/other.1"})
-        self.assertEqual({it.relative_to(self.prefix).as_posix() for it in stays}, {".", "share", "share/man", "share/man/man1"})
-
-    def test_a_file_of_another_is_not_replaced(self):
-        (self.prefix / "bin").mkdir(parents=True)
-        (self.prefix / "bin/registry").write_text("mine", encoding="ascii")
-        before = below(self.folder)
-        with self.assertRaisesRegex(Refused, "bin/registry is there already"):
-            install(self.prefix, self.pieces())
-        self.assertEqual((below(self.folder), (self.prefix / "bin/registry").read_text(encoding="ascii")), (before, "mine"))
 
     def test_an_earlier_install_is_replaced_while_it_runs(self):
         install(self.prefix, [*self.pieces(COMPILED), Piece("bin/registry-old", b""), Piece("share/old/file", b"")])
@@ -312,51 +264,6 @@ class Places(Case):
         self.assertEqual(run([moved / "bin/registryd", "race", "x"]).stdout, "stub: <race> <x>")
         remove(moved)
         self.assertFalse(moved.exists())
-
-
-class Broken(Case):
-    def test_a_full_disk_leaves_what_stood_there(self):
-        install(self.prefix, self.pieces(COMPILED))
-        before, said = below(self.prefix), run([self.prefix / "bin/registryd", "--version"]).stdout
-        with mock.patch.object(Path, "symlink_to", side_effect=OSError(28, "No space left on device", "it")):
-            with self.assertRaisesRegex(Refused, "No space left on device; nothing was installed"):
-                install(self.prefix, self.pieces(PROVED))
-        self.assertEqual((below(self.prefix), run([self.prefix / "bin/registryd", "--version"]).stdout), (before, said))
-
-    def test_a_full_disk_leaves_no_folder(self):
-        before = below(self.folder)
-        with mock.patch.object(Path, "symlink_to", side_effect=OSError(28, "No space left on device", "it")):
-            self.assertRaises(Refused, install, self.prefix, self.pieces())
-        self.assertEqual(below(self.folder), before)
-
-    def test_what_is_broken_off_can_be_removed_and_installed_again(self):
-        before, replaced = below(self.folder), os.replace
-        for after in (1, 2, 20, 40):
-            calls = []
-
-            def broken(old, new):
-                calls.append(new)
-                if len(calls) > after:
-                    raise OSError(5, "Input/output error", str(new))
-                replaced(old, new)
-
-            with mock.patch.object(os, "replace", broken), self.assertRaisesRegex(Refused, "not whole: install it again, or remove it"):
-                install(self.prefix, self.pieces())
-            self.assertGreater(len(below(self.prefix)), 50)
-            if after == 20:
-                install(self.prefix, self.pieces())
-                self.assertEqual(run([self.prefix / "bin/registryd", "x"]).stdout, "stub: <x>")
-            self.assertEqual(remove(self.prefix), [])
-            self.assertEqual(below(self.folder), before)
-
-    def test_a_list_that_names_what_is_elsewhere(self):
-        install(self.prefix, self.pieces())
-        outside = self.folder / "outside"
-        outside.write_text("mine", encoding="ascii")
-        for line in ("../outside", "bin/../../outside", str(outside)):
-            (self.prefix / prefix.LIST).write_text(f"bin/registryd\n{line}\n", encoding="utf-8")
-            self.assertRaisesRegex(Refused, "names what is not below", remove, self.prefix)
-        self.assertTrue(outside.exists() and (self.prefix / "bin/registryd").exists())
 
 
 class Words(Case):
@@ -390,19 +297,14 @@ class Words(Case):
             self.assertTrue(error.startswith("tools/install: no program") and told in error, error)
             self.assertFalse(self.prefix.exists())
 
-    def test_removing(self):
-        self.called(self.prefix, proved=PROVED)
-        self.assertEqual(self.called("--remove", self.prefix), (0, "", ""))
-        self.assertFalse(self.prefix.exists())
+    def test_removing_by_what_the_install_says(self):
+        _, said, _ = self.called(self.prefix, proved=PROVED)
+        (typed,) = re.findall("^remove it by: (.*)$", said, re.M)
+        done = run(["sh", "-c", typed], cwd=TOP)
+        self.assertEqual((done.returncode, done.stdout, done.stderr, self.prefix.exists()), (0, "", "", False))
         status, said, error = self.called("--remove", self.prefix)
         self.assertEqual((status, said), (1, ""))
         self.assertIn("nothing is installed below", error)
-
-    def test_what_says_how_to_remove_can_be_typed(self):
-        _, said, _ = self.called(self.prefix, proved=PROVED)
-        (typed,) = re.findall("^remove it by: (.*)$", said, re.M)
-        self.assertEqual(run(["sh", "-c", typed], cwd=TOP).returncode, 0)
-        self.assertFalse(self.prefix.exists())
 
     def test_below_another_folder(self):
         status, *_ = self.called("/opt/it", "--destdir", self.folder / "made", proved=PROVED)
@@ -411,26 +313,33 @@ class Words(Case):
         self.assertEqual(self.called("/opt/it", "--destdir", self.folder / "made", "--remove")[0], 0)
         self.assertEqual(self.called("it", "--destdir", self.folder, proved=PROVED)[0], 2)
 
-    def test_where_nothing_can_be_written(self):
-        status, said, error = self.called(self.stub / "prefix", proved=PROVED)
-        self.assertEqual((status, said, error.count("\n")), (1, "", 1))
-        self.assertIn("Not a directory", error)
-
-    def test_no_prefix(self):
+    def test_without_a_prefix_or_where_it_fails(self):
         status, _, error = self.called("", proved=PROVED)
         self.assertEqual((status, error.splitlines()[-1]), (2, "tools/install: error: the prefix is a folder's name"))
-
-    def test_an_install_that_is_broken_off(self):
         before = below(self.folder)
-        with mock.patch.object(Path, "symlink_to", side_effect=KeyboardInterrupt):
-            status, said, error = self.called(self.prefix, proved=PROVED)
-        self.assertEqual((status, said, error), (1, "", "tools/install: it was broken off; nothing was installed\n"))
+        for fault, told in ((KeyboardInterrupt, "it was broken off"), (OSError(28, "No space left on device"), "full")):
+            with mock.patch.object(Path, "symlink_to", side_effect=fault):
+                status, said, error = self.called(self.prefix, proved=PROVED)
+            self.assertEqual((status, said), (1, ""))
+            self.assertRegex(error, f"({told}|No space left on device); nothing was installed\n$")
         self.assertEqual(below(self.folder), before)
 
-    def test_the_command_itself(self):
-        done = run([os.path.join(TOP, "tools", "install"), "--remove", self.prefix])
-        self.assertEqual((done.returncode, done.stdout), (1, ""))
-        self.assertIn("nothing is installed below", done.stderr)
+
+class Pieces(unittest.TestCase):
+    """Texts and choices that no whole install shows."""
+
+    def test_names_of_a_checkout(self):
+        for text, wanted in (("tools/check_derivation.py, tools/registryd-etcd.",
+                              "registry-check-derivation, registryd-etcd."),
+                             ("./registry why, ./registryd", "registry why, registryd")):
+            self.assertEqual(installed.renamed(text), wanted)
+        for text in ("../tools/registryd-etcd tools/registryd-etcd/x", "./registry-tools ./registry/x ../registry"):
+            self.assertEqual(installed.renamed(text), text)
+
+    def test_what_systemd_reads(self):
+        for at, where in (("/usr", "/usr"), ("/usr/", "/usr"), ("/a%b", "/a%%b"), ('/a"\\', '/a\\"\\\\')):
+            unit, _ = installed.systemd_pieces(at)
+            self.assertIn(f'ExecStart="{where}/bin/registry" serve', unit.data.decode())
 
 
 if __name__ == "__main__":

@@ -6,7 +6,7 @@ import tempfile
 import unittest
 
 from dev.installing import installed
-from dev.installing.completions import COMMANDS
+from registry_cli.completion import PROGRAM as COMMANDS
 from tests.support.program import PROGRAM, TOP, skip_without
 
 VERSION = open(os.path.join(TOP, "VERSION"), encoding="ascii").read().strip()
@@ -55,11 +55,11 @@ class Pages(unittest.TestCase):
 class OfTheProgram(unittest.TestCase):
     def test_each_option_is_in_the_synopsis_and_told(self):
         parts = sections(page("registryd.1"), "Sh")
-        taken = {it.name for command in COMMANDS for it in command.options} | {"version"}
+        taken = {it[2:] for options in COMMANDS.values() for it in options} | {"version"}
         self.assertEqual(options(parts["SYNOPSIS"]), taken)
         told = re.findall(r"^\.It Fl \\-([a-z-]+)", parts["OPTIONS"], re.M)
         self.assertEqual(sorted(told), sorted([*taken, "help"]))
-        self.assertEqual(re.findall(r"^\.Cm (\w+)", parts["SYNOPSIS"], re.M), [it.name for it in COMMANDS])
+        self.assertEqual(re.findall(r"^\.Cm (\w+)", parts["SYNOPSIS"], re.M), [*COMMANDS])
 
     def test_each_status_and_each_line_of_standard_error_is_there(self):
         with open(os.path.join(TOP, "docs", "FORMATS.md"), encoding="utf-8") as text:

@@ -2,6 +2,7 @@
 made of it; exit statuses, colours, pipes and terminals; and what one loads to start."""
 import importlib
 import os
+import re
 import shlex
 import shutil
 import signal
@@ -9,8 +10,9 @@ import subprocess
 import sys
 import tempfile
 import unittest
+from functools import partial
 
-from registry_cli import command_line, manual, table
+from registry_cli import command_line, completion, manual, table
 from tests.support.called import registry
 from tests.support.processes import child_of, is_gone
 from tests.support.program import PROGRAM, TOP, publish, skip_without, yank
@@ -118,6 +120,23 @@ class Completed(Folder):
     def test_where_there_is_no_journal(self):
         self.assertEqual(self.offered("show", ""), [])
 
+    def test_the_words_of_the_program_are_its_own(self):
+        run = partial(subprocess.run, stdin=subprocess.DEVNULL, capture_output=True, timeout=60, check=False)
+
+        def helped(*words):
+            said = run([PROGRAM, *words, "--help"]).stdout.decode()
+            return dict(re.findall(r"^ +(?:-h, +)?((?:--)?\w+)((?: <\w+>)?) {2,}\S", said, re.M))
+        self.assertEqual({*helped()}, {*completion.PROGRAM, "--help"})
+        for command, options in completion.PROGRAM.items():
+            if options:
+                self.assertEqual({it: bool(value) for it, value in helped(command).items()},
+                                 {**{it: bool(takes) for it, takes in options.items()}, "--help": False})
+            for option, takes in options.items():
+                for value in takes if isinstance(takes, tuple) else ():
+                    workers = ["--workers", "1"] if option != "--workers" else []
+                    done = run([PROGRAM, command, *workers, option, value])
+                    self.assertEqual((done.returncode, done.stderr), (0, b""), value)
+
     def shell(self, *words):
         done = subprocess.run(words, cwd=self.folder, stdin=subprocess.DEVNULL, stdout=subprocess.PIPE, stderr=subprocess.PIPE, text=True, timeout=60,
                               env={**os.environ, "REGISTRY_PROGRAM": PROGRAM, "REGISTRY_JOURNAL": self.journal, "PATH": TOP + os.pathsep + os.environ["PATH"]})
@@ -128,13 +147,17 @@ class Completed(Folder):
         return self.path(shell, registry("--completion", shell)[1])
 
     def test_bash(self):
-        call = "compopt() { echo options: $*; }; . \"$1\"; shift; COMP_WORDS=(\"$@\") COMP_CWORD=$(($# - 1)); _registry registry; printf '%s\\n' \"${COMPREPLY[@]}\""
+        call = ("compopt() { echo options: $*; }; . \"$1\"; shift; COMP_WORDS=(\"$@\") COMP_CWORD=$(($# - 1)); "
+                "_registry \"$1\"; printf '%s\\n' \"${COMPREPLY[@]}\"")
         script = self.script("bash")
         self.hold(*self.LINES)
         self.path("app.lock", "[]")
         for words, wanted in ((["sho"], ["show"]), (["show", "l"], ["lock", "log"]), (["show", "x"], [""]), (["diff", "app"], ["options: -o filenames", "app.lock"])):
             self.assertEqual(self.shell("bash", "--norc", "-c", call, "bash", script, "registry", *words), wanted)
-        self.assertEqual(self.shell("bash", "--norc", "-c", f". {script}; complete -p registry"), ["complete -F _registry registry"])
+        words = ["registryd", "serve", "--workers", "=", "6"]
+        self.assertEqual(self.shell("bash", "--norc", "-c", call, "bash", script, *words), ["64"])
+        self.assertEqual(self.shell("bash", "--norc", "-c", f". {script}; complete -p registry registryd"),
+                         ["complete -F _registry registry", "complete -F _registry registryd"])
 
     @skip_without("zsh", "zsh")
     def test_zsh(self):
@@ -142,13 +165,19 @@ class Completed(Folder):
         script = self.script("zsh")
         self.hold(*self.LINES)
         for words, wanted in ((["sho"], ["show"]), (["show", "l"], ["lock", "log"]), (["diff", "app"], ["files:"]), (["import", "cargo", ""], ["files: -/"])):
-            self.assertEqual(self.shell("zsh", "-f", "-c", call, "zsh", script, "registry", *words), ["told: _registry registry", *wanted])
+            self.assertEqual(self.shell("zsh", "-f", "-c", call, "zsh", script, "registry", *words),
+                             ["told: _registry registry registryd", *wanted])
+        words = ["registryd", "serve", "--workers", "6"]
+        self.assertEqual(self.shell("zsh", "-f", "-c", call, "zsh", script, *words)[1:], ["64"])
 
     @skip_without("fish", "fish")
     def test_fish(self):
         script = self.script("fish")
         self.hold(*self.LINES)
-        for line, wanted in (("registry sho", ["show"]), ("registry show lo", ["lock", "log"]), ("registry yank log 1.1", ["1.1.0"])):
+        for line, wanted in (("registry sho", ["show"]), ("registry show lo", ["lock", "log"]),
+                             ("registry yank log 1.1", ["1.1.0"]),
+                             ("registryd serve --workers 6", ["64"]), ("registryd serve --workers=6", ["--workers=64"]),
+                             ("registryd race reg", ["registry.journal"])):
             self.assertEqual(sorted(self.shell("fish", "--no-config", "-c", f"source {script}; complete -C '{line}'")), wanted)
 
 

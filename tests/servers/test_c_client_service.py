@@ -44,6 +44,8 @@ def callers():
 @needs_library
 @skip_without("cc", "gcc")
 class Called(Case):
+    LONGEST = 300  # the library is compiled under two sanitizers
+
     @classmethod
     def setUpClass(cls):
         cls.caller, cls.threads = callers()
