@@ -1,9 +1,9 @@
 -- What the calls of a race's seat leave.
-use Rattle.std.proofs.Common.{◌≡◌, ℕ, List, [], ◌∷◌, ◌++◌, ◌∙◌, ap, sym, subst, refl, append_assoc, append-nil, inl, inr, Option, None, Some, Result, Ok, Err, MatchResult}
+use Rattle.std.proofs.Common.{◌≡◌, ◌⊎◌, ℕ, List, [], ◌∷◌, ◌++◌, ◌∙◌, ap, sym, subst, refl, append_assoc, append-nil, inl, inr, Option, None, Some, Result, Ok, Err, MatchResult}
 use Rattle.versions.specs.declared.refusal.Refusal.{Refusal}
 use Rattle.derivations.specs.Lines.{Line}
 use Rattle.chronicle.specs.declared.entry.Entry.{Entry}
-use Rattle.chronicle.specs.Calls.{Ask, MayRefuse, Meet, Reply}
+use Rattle.chronicle.specs.Calls.{Ask, MayRefuse, Meet, Told}
 use Rattle.chronicle.specs.Journals.{Begins, Sees, looked}
 use Rattle.chronicle.specs.Seats.{HasCalled, IsStopped, MayHaveSeen, Refused, SeatState}
 use Rattle.replies.specs.Replies as replies
@@ -19,7 +19,7 @@ looked_begins seen None = record { rest = []; is = append-nil seen }
 looked_begins seen (Some e) = record { rest = e ∷ []; is = refl }
 
 -- no call loses what was seen
-pub call_begins : {p q : SeatState} {ask : Ask} {reply : Reply ask} → HasCalled p q ask reply → Begins p.journal q.journal
+pub call_begins : {p q : SeatState} {ask : Ask} {reply : Result (Told ask) Refusal} → HasCalled p q ask reply → Begins p.journal q.journal
 call_begins {p} {q} called =
     let call = called.call in
     let first = call.sees.begins in
@@ -32,7 +32,7 @@ call_looks {p} {q} {ask} {r} called =
     let call = called.call in
     let same : q.journal ≡ call.seen = call.now ∙ ap (looked call.seen) call.ends.1 in (
       record { row = called.row; number = called.number; sees = subst (Sees p.number p.journal) (sym same) call.sees; stays = called.stays },
-      subst (λ (j : List Entry). MayRefuse (IsStopped q) q.row.capacity j ask r) (sym same) call.ends.0,
+      subst (λ (j : List Entry). IsStopped q r ⊎ MayRefuse q.row.capacity j ask r) (sym same) call.ends.0,
     )
 
 -- one that meets a mark has reached it

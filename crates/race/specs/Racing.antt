@@ -3,7 +3,6 @@ use Rattle.std.specs.Prelude.{◌≡◌, ◌⊎◌, ℕ, ◌+◌, ◌-◌, ◌<�
 use Rattle.std.specs.Io.KnownBytes.{Appends}
 use Rattle.versions.specs.Words.{Text}
 use Rattle.versions.specs.declared.refusal.Refusal.TheVariants.{Stray}
-use Rattle.book.specs.declared.item.Item.{Item}
 use Rattle.chronicle.specs.Calls.{Enter}
 use Rattle.chronicle.specs.Cells.{Cells}
 use Rattle.chronicle.specs.Journals.{Begins, items_of, packages_of, refusal_at, revision_of}
