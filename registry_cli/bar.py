@@ -1,30 +1,36 @@
-"""What standard error says while something takes long: what it is, and how far; nothing where that is no terminal, or --quiet is given."""
+"""What standard error says while something takes long: what it is, and how far; nothing where that is no terminal, or
+--quiet is given."""
+from __future__ import annotations
+
 import contextlib
 import sys
 import threading
 import time
 
-from . import output
+from . import TYPE_CHECKING, output
+
+if TYPE_CHECKING:
+    from collections.abc import Iterator
 
 WIDE, ERASE = 30, "\r\x1b[K"
 TICK = 1  # seconds
 is_timed = False
 
 
-def is_seen():
+def is_seen() -> bool:
     return sys.stderr.isatty() and not output.chosen.is_quiet
 
 
-def show(text):
+def show(text: str) -> None:
     print(text, end="", file=sys.stderr, flush=True)
 
 
 @contextlib.contextmanager
-def busy(said):
+def busy(what: str) -> Iterator[None]:
     """Says what is being done, as long as it is."""
     seen = is_seen()
     if seen:
-        show(said)
+        show(what)
     try:
         yield
     finally:
@@ -33,19 +39,19 @@ def busy(said):
 
 
 @contextlib.contextmanager
-def timed(said, limit=0):
-    """The same, for how many seconds, once it has taken one; and the seconds that it may take, if those are limited. What is a part of
-    something that is timed says nothing."""
+def timed(what: str, limit: int = 0) -> Iterator[None]:
+    """The same, for how many seconds, once it has taken one; and the seconds that it may take, if those are limited.
+    What is a part of something that is timed says nothing."""
     global is_timed
     if is_timed or not is_seen():
         yield
         return
     is_over, begun = threading.Event(), time.monotonic()
 
-    def tell():
+    def tell() -> None:
         most = f", at most {limit} s" if limit else ""
         while not is_over.wait(TICK):
-            show(f"{ERASE}{said} for {time.monotonic() - begun:.0f} s{most}; Ctrl-C ends it")
+            show(f"{ERASE}{what} for {time.monotonic() - begun:.0f} s{most}; Ctrl-C ends it")
     telling = threading.Thread(target=tell, daemon=True)
     telling.start()
     is_timed = True
@@ -62,11 +68,11 @@ def timed(said, limit=0):
 class Bar:
     """A bar of so many steps."""
 
-    def __init__(self, said, whole):
-        self.said, self.whole, self.done, self.shown = said, whole, 0, None
+    def __init__(self, what: str, whole: int) -> None:
+        self.what, self.whole, self.done, self.shown = what, whole, 0, -1
         self.is_seen = is_seen() and whole > 0
 
-    def step(self):
+    def step(self) -> None:
         """One more step is done. The line is written anew with each percent."""
         self.done += 1
         if not self.is_seen:
@@ -74,9 +80,9 @@ class Bar:
         percent, full = 100 * self.done // self.whole, WIDE * self.done // self.whole
         if percent != self.shown:
             self.shown = percent
-            show(f"\r{self.said} [{'#' * full}{'.' * (WIDE - full)}] {percent}%, {self.done} of {self.whole}")
+            show(f"\r{self.what} [{'#' * full}{'.' * (WIDE - full)}] {percent}%, {self.done} of {self.whole}")
 
-    def end(self):
+    def end(self) -> None:
         """Takes the line away."""
         if self.is_seen:
             show(ERASE)

@@ -1,5 +1,8 @@
 """A request with its answer, told in English: what was selected, why nothing was, or why one version was not."""
-from .check_derivation import PAIRS, Fault, admits, demand, formed, read_version
+from __future__ import annotations
+
+from . import TYPE_CHECKING
+from .check_derivation import PAIRS, Fault, admits, demand, formed, precedence
 from .derivation import FAILED, Derivation, listed
 from .failures import Refused
 from .limits import MOST_LOCK_LINES
@@ -10,114 +13,142 @@ from .refusals import english, not_there, unmatched, unpublished
 from .telling import Telling
 from .walk import is_preferred, walk
 
+if TYPE_CHECKING:
+    from collections.abc import Callable, Collection, Iterator, Mapping
+
+    from .shapes import Object, Pairs, RegistryOf, Reply, Request
+
+    Ask = Callable[[Request], Reply]
+    Put = Callable[[Question, Request], Reply]
+
 MOST_NAMED = 4
 
 
-def drawing():
-    """What draws pictures, which is loaded only where one is wanted."""
-    from . import drawing as found
-    return found
-
-
-def told_needs(needs):
+def told_needs(needs: Pairs) -> str:
     """What is asked for, in short."""
     told = [f"{name} {requirement}" for name, requirement in needs]
     more = [f"{len(told) - MOST_NAMED} more"] if len(told) > MOST_NAMED else []
     return ", ".join([*told[:MOST_NAMED], *more]) or "no needs"
 
 
-def hints(derivation):
+def hints(derivation: Derivation) -> Iterator[str]:
     """What is published in place of what a refusal misses: the versions of a package, or the nearest name."""
     registry = derivation.registry
     published = {name for name, held in registry.releases.items() if held} | set(derivation.names)
     for name, requirement in derivation.lacking():
         if name in published:
-            said = unmatched(name, requirement, [(it.text, it.yanked) for it in registry.releases[name]])
+            sentence = unmatched(name, requirement, [(it.text, it.yanked) for it in registry.releases[name]])
         else:
-            said = unpublished(name, published)
-        if ";" in said:
-            yield said[0].upper() + said[1:] + "." * (not said.endswith("?"))
+            sentence = unpublished(name, published)
+        if ";" in sentence:
+            yield sentence[0].upper() + sentence[1:] + "." * (not sentence.endswith("?"))
 
 
 class Case:
-    """A request with its reply. `registry` answers the registry in Python, with some packages; `ask` asks the program again, and `put` puts a
-    question that no request asks; `names` are the published packages."""
+    """A request with its reply. `registry` answers the registry in Python, with some packages; `ask` asks the program
+    again, and `put` puts a question that no request asks; `names` are the published packages."""
 
-    def __init__(self, request, reply, registry, ask, names=(), told="", put=None):
-        self.request = {"op": "resolve", "needs": request["needs"], "lock": request.get("lock", [])}
+    def __init__(self, request: Object, reply: Reply | None, registry: RegistryOf, ask: Ask | None,
+                 names: Collection[str] = (), told: str = "", put: Put | None = None) -> None:
+        self.request: Request = {"op": "resolve", "needs": request["needs"], "lock": request.get("lock", [])}
         self.registry, self.ask, self.put, self.names, self.told = registry, ask, put, names, told
         self.reply = reply or self.again()
-        self.refuted = None  # the derivation that was told
-        self.draw = None  # once it was told: what draws it, of a derivation at most so many lines unfolded
+        self.refuted: Derivation | None = None  # the derivation that was told
+        # once it was told: what draws it, of a derivation at most so many lines unfolded
+        self.draw: Callable[[float], str] | None = None
 
     @property
-    def revision(self):
+    def revision(self) -> int:
         return self.reply["revision"]
 
-    def title(self):
+    def title(self) -> str:
         """What was asked, in short."""
         return self.told + told_needs(self.request["needs"])
 
-    def again(self, question=None, **other):
-        """The reply to this request, or to a question, with some members changed."""
-        request = {**(question.request if question else self.request), "explain": True, **other}
-        reply = self.ask(request) if question is None or question.is_plain() else self.put(question, request)
+    def again(self, question: Question | None = None, lock: Pairs | None = None) -> Reply:
+        """The reply to this request, or to a question, perhaps with another lock."""
+        explained: Request = {"explain": True}
+        request = (question.request if question else self.request) | explained
+        if lock is not None:
+            request["lock"] = lock
+        if question is None or question.is_plain():
+            assert self.ask
+            reply = self.ask(request)
+        else:
+            assert self.put
+            reply = self.put(question, request)
         if "error" in reply:
             raise Refused(f"{self.title()}: {english(request, reply, dict)}", reply)
         return reply
 
-    def answer(self):
+    def answer(self) -> list[str]:
         """What was asked and how it was answered, as lines."""
         if "selected" in self.reply:
             return self.selection(f"{self.title()}: selected at revision {self.revision}", self.selected())
         return self.refusal(f"{self.title()}: refused at revision {self.revision}", self.request, self.reply)
 
-    def selected(self):
+    def selected(self) -> dict[str, str]:
         """The versions by package that the reply has."""
-        demand(formed(self.reply["selected"], PAIRS), f"{self.title()}: the reply has no selection of the right form", Refused)
+        has_form = formed(self.reply["selected"], PAIRS)
+        demand(has_form, f"{self.title()}: the reply has no selection of the right form", Refused)
         return dict(self.reply["selected"])
 
-    def selection(self, title, selected):
-        self.draw = lambda _: drawing().draw_selection(self.registry(selected), self.request, selected, title)
+    def selection(self, title: str, selected: Mapping[str, str]) -> list[str]:
+        def draw(_: float) -> str:
+            from .drawing import draw_selection  # which is loaded only where a picture is wanted
+            return draw_selection(self.registry(selected), self.request, selected, title)
+
+        self.draw = draw
         return [title, *(f"  {name} {version}" for name, version in selected.items())]
 
-    def derivation(self, title, request, reply, asked=None, held=None):
+    def derivation(self, title: str, request: Request, reply: Reply, asked: tuple[str, str] | None = None,
+                   held: Mapping[str, str] | None = None) -> Derivation:
         """The derivation of a refusal, which follows."""
         rows = reply.get("derivation") or self.again().get("derivation")
-        demand(rows, f"{title}: asked again, the program answers a selection", Refused)
+        if not rows:
+            raise Refused(f"{title}: asked again, the program answers a selection")
         try:
             return Derivation(self.registry(named(request, rows)), request, rows, asked, self.names, held)
         except Fault as fault:
             raise Refused(f"{title}: the derivation does not follow: {fault}") from None
 
-    def refusal(self, title, request, reply, asked=None, failed=FAILED):
+    def refusal(self, title: str, request: Request, reply: Reply, asked: tuple[str, str] | None = None,
+                failed: str = FAILED) -> list[str]:
         """The English of a refusal, and what there is instead of what it misses."""
         return self.english(self.derivation(title, request, reply, asked), title, failed)
 
-    def english(self, derivation, title, failed):
+    def english(self, derivation: Derivation, title: str, failed: str) -> list[str]:
         self.refuted = derivation
-        self.draw = lambda most: drawing().draw_derivation(derivation, title, failed, most)
+
+        def draw(most: float) -> str:
+            from .drawing import draw_derivation
+            return draw_derivation(derivation, title, failed, most)
+
+        self.draw = draw
         return [title, *("  " + it if it else "" for it in (*Telling(derivation, failed).lines(), *hints(derivation)))]
 
     # ---- why a version is not what was selected
 
-    def why_not(self, name, version):
+    def why_not(self, name: str, version: str) -> list[str]:
         registry = self.registry([name])
-        release, held = registry.find(name, version), [(it.text, it.yanked) for it in registry.releases.get(name, ())]
+        release = registry.find(name, version)
+        held = [(it.text, it.yanked) for it in registry.releases.get(name, ())]
         if release is None:
-            raise Refused(not_there({"name": name, "version": version}, {name: held} if held else dict.fromkeys(self.names)))
+            packages = {name: held} if held else dict.fromkeys(self.names, held)
+            raise Refused(not_there({"name": name, "version": version}, packages))
         if "selected" not in self.reply:
             return self.answer()
         selected, needs = self.selected(), dict(self.request["needs"])
-        if name in selected and read_version(selected[name]) == release.version:
+        if name in selected and precedence(selected[name]) == release.version:
             return [f"{name} {selected[name]} is what was selected"]
         if name in needs and not admits(needs[name], release.version):
             return [f"{name} {release.text} can't be selected: the request depends on {name} {needs[name]}"]
         return self.with_version(name, release.text, selected)
 
-    def with_version(self, name, text, selected):
+    def with_version(self, name: str, text: str, selected: Mapping[str, str]) -> list[str]:
         """What is answered where just this version is asked for."""
-        question, title, failed = Question(self.request, {name: text}), self.title(), f"{name} {text} can't be selected"
+        question, title = Question(self.request, {name: text}), self.title()
+        failed = f"{name} {text} can't be selected"
         reply = self.again(question)
         if "selected" not in reply:
             return self.refusal(f"{title}: {failed}", question.request, reply, (name, text), failed)
@@ -132,17 +163,20 @@ class Case:
         self.selection(f"{title}: a selection with {name} {text}", other)
         return [*lines, *further]
 
-    def before(self, name, text, selected):
-        """The selected versions that come before a package in the walk, where this version would be preferred to the selected one."""
+    def before(self, name: str, text: str, selected: Mapping[str, str]) -> dict[str, str]:
+        """The selected versions that come before a package in the walk, where this version would be preferred to the
+        selected one."""
         if name not in selected or not is_preferred(text, selected[name], dict(self.request["lock"]).get(name)):
             return {}
         order = walk(self.request["needs"], selected, self.registry(selected))
         return {it: selected[it] for it in order[:order.index(name)]}
 
-    def forbidden(self, name, text, before, failed):
+    def forbidden(self, name: str, text: str, before: Mapping[str, str], failed: str) -> list[str]:
         """Which of the versions that come before rule this one out, and why; nothing where they leave it."""
         question = Question(self.request, {**before, name: text})
-        reply = self.again(question) if before else {"selected": []}
+        if not before:
+            return []
+        reply = self.again(question)
         if "selected" in reply:
             return []
         derivation = self.derivation(self.title(), question.request, reply, (name, text), before)
@@ -151,18 +185,19 @@ class Case:
         come = f"which come{'s' * (len(told) == 1)} before it"
         return self.english(derivation, f"{self.title()}: {failed} with {listed(told, 'and')}, {come}", failed)
 
-    def nearest(self, question, selected, reply):
+    def nearest(self, question: Question, selected: Mapping[str, str], reply: Reply) -> dict[str, str]:
         """A selection for a question that keeps what was selected where it may, else the one of a reply."""
         kept = {**dict(self.request["lock"]), **selected}
         if len(kept) <= MOST_LOCK_LINES:
-            reply = {**reply, **self.again(question, lock=[list(it) for it in kept.items()])}
+            reply = reply | self.again(question, [list(it) for it in kept.items()])
         return dict(reply["selected"])
 
-    def instead(self, name, text, selected):
+    def instead(self, name: str, text: str, selected: Mapping[str, str]) -> str:
         """What was selected instead of a version, and how it differs."""
         if name not in selected:
             return f"no version of {name} was selected, since nothing that was selected needs one"
         chosen, locked = selected[name], dict(self.request["lock"]).get(name)
-        one, other = read_version(chosen), read_version(text)
-        how = "which the lock names" if locked and read_version(locked) == one else "which is " + ("higher" if one > other else "lower")
+        one, other = precedence(chosen), precedence(text)
+        is_locked = locked and precedence(locked) == one
+        how = "which the lock names" if is_locked else "which is " + ("higher" if one > other else "lower")
         return f"{name} {chosen} was selected, {how}"

@@ -1,14 +1,26 @@
-"""What a registry has: each package with its versions, what these need, and who needs it. Of a journal's text only what is asked for is
-read: all of 49,152 commands take more than a second."""
+"""What a registry has: each package with its versions, what these need, and who needs it. Of a journal's text only what
+is asked for is read: all of 49,152 commands take more than a second."""
+from __future__ import annotations
+
 import json
 import re
 from collections import namedtuple
 from functools import cached_property, lru_cache
 
+from . import TYPE_CHECKING
 from .failures import Refused
 
-# Patterns, each compiled where it is used first. Commands as a journal has them, byte for byte: the program loads no others. Those of one
-# package most often follow each other
+if TYPE_CHECKING:
+    from collections.abc import Iterator, Sequence
+    from typing import TypeVar
+
+    from .check_derivation import Version as Precedence
+    from .shapes import Listed, Pairs, Request
+
+    Yanked = TypeVar("Yanked", "Version", Listed)  # what begins with a text and whether it is yanked
+
+# Patterns, each compiled where it is used first. Commands as a journal has them, byte for byte: the program loads no
+# others. Those of one package most often follow each other
 RUN = rb'\{"name":"([^"]+)",.*\n(?:\{"name":"\1",.*\n)*'
 # a command as letters, without what it needs
 LISTED = r'\{"name":"([^"]+)",(?:"needs":.*,)?"op":"(\w+)","version":"([^"]+)"\}'
@@ -22,42 +34,47 @@ MENTION = rb'(?:\{"name":|\[)"([^"]+)",'  # a command's package, or what it need
 
 class Version(namedtuple("Version", "text is_yanked needing", defaults=[b"[]"])):
     """A published version, and what it needs as JSON."""
+    text: str
+    is_yanked: bool
+    needing: bytes
 
     @property
-    def needs(self):
+    def needs(self) -> Pairs:
         """Pairs of a name and a requirement."""
-        return json.loads(self.needing)
+        pairs: Pairs = json.loads(self.needing)
+        return pairs
 
     @property
-    def is_pre_release(self):
-        return precedence(self.text)[3] != RELEASE
+    def is_pre_release(self) -> bool:
+        return bool(precedence(self.text)[3] != RELEASE)
 
 
 @lru_cache(maxsize=None)
-def precedence(text):
+def precedence(text: str) -> Precedence:
     """A published version as it compares. Most have numbers alone, which are told sooner."""
     if text.replace(".", "").isdigit():
         return *map(int, text.split(".")), RELEASE
-    from .check_derivation import read_version
-    return read_version(text)
+    from .check_derivation import precedence as whole
+    return whole(text)
 
 
 @lru_cache(maxsize=None)
-def rank(text):
-    """A published version as what is taken where nothing else is asked for: a pre-release only where there is nothing else."""
+def rank(text: str) -> tuple[bool, Precedence]:
+    """A published version as what is taken where nothing else is asked for: a pre-release only where there is nothing
+    else."""
     numbers = precedence(text)
     return numbers[3] == RELEASE, numbers
 
 
-def newest(versions):
-    """The version that is taken where nothing else is asked for, of those that begin with a text and whether it is yanked: such a one
-    only where there is nothing else."""
+def newest(versions: Sequence[Yanked]) -> Yanked:
+    """The version that is taken where nothing else is asked for, of those that begin with a text and whether it is
+    yanked: such a one only where there is nothing else."""
     return max([it for it in versions if not it[1]] or versions, key=lambda it: rank(it[0]))
 
 
-def pieces(text):
-    """A journal's text in parts of whole lines. What is found in one takes the memory of what was found in the one before, so a search in
-    each takes a fifth less than one in the whole."""
+def pieces(text: bytes) -> Iterator[bytes]:
+    """A journal's text in parts of whole lines. What is found in one takes the memory of what was found in the one
+    before, so a search in each takes a fifth less than one in the whole."""
     at = 0
     while at < len(text):
         end = text.find(b"\n", at + PIECE) + 1 or len(text)
@@ -65,15 +82,17 @@ def pieces(text):
         at = end
 
 
-def commands_in(text):
+def commands_in(text: bytes) -> list[bytes]:
     """The lines of the commands that a whole journal has."""
     lines = text.split(b"\n")[1:-2]
     return [it for it in lines if not it.endswith(LEARN)] if LEARN in text else lines
 
 
-def listed_in(text):
-    """By package the versions that commands of a journal publish, in order of publication, as pairs of a text and whether it is yanked."""
-    listed, yanked = {}, {}
+def listed_in(text: bytes) -> dict[str, list[Listed]]:
+    """By package the versions that commands of a journal publish, in order of publication, as pairs of a text and
+    whether it is yanked."""
+    listed: dict[str, list[Listed]] = {}
+    yanked: dict[tuple[str, Precedence], bool] = {}
     for piece in pieces(text):
         for name, op, version in re.findall(LISTED, piece.decode(errors="replace")):
             if op == "publish":
@@ -89,49 +108,53 @@ def listed_in(text):
 class Catalog:
     """The packages of a journal's text, and the lines that each has there."""
 
-    def __init__(self, text):
-        self.text, found = text, {}
+    def __init__(self, text: bytes) -> None:
+        self.text = text
+        found: dict[bytes, list[bytes]] = {}
         for it in re.finditer(RUN, text):
             found.setdefault(it[1], []).append(it[0])
         self.lines = {name.decode(errors="replace"): b"".join(runs) for name, runs in found.items()}
 
     @cached_property
-    def revision(self):
+    def revision(self) -> int:
         return sum(it.count(b"\n") for it in self.lines.values())
 
-    def published(self, name):
+    def published(self, name: str) -> list[Version]:
         """The versions of a package in order of publication."""
         lines = self.lines.get(name, b"")
         versions = [Version(text.decode(), False, needs) for needs, text in re.findall(PUBLICATION, lines)]
         yanked = {precedence(text.decode()): op == b"yank" for op, text in re.findall(YANK, lines)}
         # a yank is of the version that has the same precedence
-        return [it._replace(is_yanked=yanked.get(precedence(it.text), False)) for it in versions] if yanked else versions
+        if not yanked:
+            return versions
+        return [it._replace(is_yanked=yanked.get(precedence(it.text), False)) for it in versions]
 
-    def ranked(self, name):
+    def ranked(self, name: str) -> list[Version]:
         """The versions of a package by precedence, the newest first."""
         return sorted(self.published(name), key=lambda it: precedence(it.text), reverse=True)
 
-    def versions(self, name):
+    def versions(self, name: str) -> list[Version]:
         """The versions of a package, the newest first."""
         if name not in self.lines:
             from .refusals import unpublished
             raise Refused(unpublished(name, self.lines))
         return self.ranked(name)
 
-    def version(self, name, text):
+    def version(self, name: str, text: str) -> Version:
         """The version of a package that equals this one."""
         from .check_derivation import read_version
         versions = self.versions(name)
         found = next((it for it in versions if precedence(it.text) == read_version(text)), None)
         if found is None:
             from .refusals import not_there
-            raise Refused(not_there({"name": name, "version": text}, {name: [it[:2] for it in versions]}))
+            held = [(it.text, it.is_yanked) for it in versions]
+            raise Refused(not_there({"name": name, "version": text}, {name: held}))
         return found
 
-    def newest(self, name):
+    def newest(self, name: str) -> Version:
         return newest(self.versions(name))
 
-    def needing(self, name):
+    def needing(self, name: str) -> Iterator[tuple[str, str, str]]:
         """Of each package with a version that needs this one, by name: its newest such version, and the requirement."""
         target = f'["{name}","'.encode()
         need = re.compile(re.escape(target) + rb'([^"]+)"\].*"version":"([^"]+)"\}')
@@ -141,22 +164,24 @@ class Catalog:
                 requirement, version = max(found, key=lambda it: precedence(it[1].decode()))
                 yield other, version.decode(), requirement.decode()
 
-    def commands(self, name):
+    def commands(self, name: str) -> Iterator[Request]:
         """The commands of a package."""
         return map(json.loads, self.lines.get(name, b"").splitlines())
 
     @cached_property
-    def mentioned(self):
-        """The names of all packages, also of those that are only needed, in the order in which they are first mentioned."""
-        return [it.decode(errors="replace") for it in dict.fromkeys(re.findall(MENTION, self.text))]  # what was learnt names no others
+    def mentioned(self) -> list[str]:
+        """The names of all packages, also of those that are only needed, in the order in which they are first
+        mentioned."""
+        # what was learnt names no others
+        return [it.decode(errors="replace") for it in dict.fromkeys(re.findall(MENTION, self.text))]
 
     @cached_property
-    def listed(self):
+    def listed(self) -> dict[str, list[Listed]]:
         """By package its versions in order of publication, as pairs of a text and whether it is yanked."""
         return listed_in(self.text)
 
 
 @lru_cache(maxsize=1)
-def catalog_of(text):
+def catalog_of(text: bytes) -> Catalog:
     """What a journal's text has. The same text is read once."""
     return Catalog(text)

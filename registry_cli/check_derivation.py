@@ -8,61 +8,80 @@ Each refusal with a derivation gets a line. Status 0: all follow; 1: one does no
 are those of Semantic Versioning 2.0.0, of the Cargo Book ("Specifying Dependencies", as the crate `semver` reads it)
 and of Dart pub's doc/solver.md. The words of explanations are not judged.
 """
+from __future__ import annotations
+
 import re
 import sys
 from functools import lru_cache
-from types import SimpleNamespace
+
+TYPE_CHECKING = False  # for who checks types it is true by its name, as that of `typing` is
+if TYPE_CHECKING:
+    from collections.abc import Callable, Collection, Iterable, Iterator, Mapping, Sequence
+    from typing import Any
+
+    Version = tuple[Any, ...]  # three numbers, then RELEASE or a tuple for the pre-release; of a comparator fewer
+    Term = tuple[bool, frozenset[int]]  # that a choice lies in a set, or does not
+    Terms = dict[str, Term]
+    Object = Mapping[str, Any]  # an object of JSON that nobody has judged
 
 NUMBER = "(0|[1-9][0-9]*)"
 IDENTIFIER = "(?:0|[1-9][0-9]*|[0-9]*[A-Za-z-][0-9A-Za-z-]*)"
 TAIL = rf"(?:-({IDENTIFIER}(?:\.{IDENTIFIER})*))?(?:\+[0-9A-Za-z-]+(?:\.[0-9A-Za-z-]+)*)?"
-COMPARATOR = rf"(=|>=|>|<=|<|~|\^)? *{NUMBER}(?:\.(?:{NUMBER}(?:\.(?:{NUMBER}{TAIL}|([*xX])))?|([*xX])(?:\.[*xX])?))?"  # compiled where it is used first
+# compiled where it is used first
+COMPARATOR = (rf"(=|>=|>|<=|<|~|\^)? *{NUMBER}"
+              rf"(?:\.(?:{NUMBER}(?:\.(?:{NUMBER}{TAIL}|([*xX])))?|([*xX])(?:\.[*xX])?))?")
 NAME = re.compile("[a-z][a-z0-9_-]{0,63}")
 MOST_BYTES, MOST_COMPARATORS = 256, 32
 RELEASE = (1,)  # what a version without a pre-release has in its place: it stands above each pre-release
 UNSEEN = (6, 8, 9, 10, 18, 19)  # refusals for limits, for memory and for a line's form: they are followed, not judged
 ROOT = ""  # the package that stands for the request; its one version has the ordinal 0
-ALWAYS = (False, frozenset())  # a term says that a choice lies in a set (True) or does not; this one always holds
-NEVER = {ROOT: (True, frozenset({0}))}  # the request can't be met
+ALWAYS: Term = (False, frozenset())  # a term says that a choice lies in a set (True) or does not; this one always holds
+NEVER: Terms = {ROOT: (True, frozenset({0}))}  # the request can't be met
 PAIRS, ORDINALS = [(str, str)], range  # forms of JSON values, as `formed` takes them: ordinals rise
-COMMANDS = [{"op": "publish", "name": str, "version": str, "needs": PAIRS},
-            {"op": "yank", "name": str, "version": str}, {"op": "unyank", "name": str, "version": str}]
+COMMANDS: list[dict[str, object]] = [
+    {"op": "publish", "name": str, "version": str, "needs": PAIRS},
+    {"op": "yank", "name": str, "version": str}, {"op": "unyank", "name": str, "version": str}]
 RESOLVE = {"op": "resolve", "needs": PAIRS, "lock": PAIRS, "explain": bool, "budget": int}
 LINE = {"causes": (dict, dict), "conclusion": [(str, bool, ORDINALS)], "pivot": str}
-CAUSES = {"line": {"line": int}, "root": {"fact": "root"}, "need": {"fact": "need", "index": int},
-          "disallowed": {"fact": "disallowed", "name": str, "versions": ORDINALS},
-          "premise": {"fact": "premise", "name": str, "need": str, "target": str, "versions": ORDINALS, "within": ORDINALS}}
+CAUSES: dict[str, dict[str, object]] = {
+    "line": {"line": int}, "root": {"fact": "root"}, "need": {"fact": "need", "index": int},
+    "disallowed": {"fact": "disallowed", "name": str, "versions": ORDINALS},
+    "premise": {"fact": "premise", "name": str, "need": str, "target": str, "versions": ORDINALS, "within": ORDINALS}}
 
 
 class Fault(Exception):
     """Why a derivation does not follow. What can't be judged at all is a ValueError."""
 
 
-def demand(holds, told, kind=Fault):
+def demand(holds: object, told: str, kind: type[Exception] = Fault) -> None:
     if not holds:
         raise kind(told)
 
 
-def formed(value, form):
-    """Whether a JSON value has a form: members, the form of each item or of all, rising ordinals, a number, a text, a type."""
+def formed(value: Any, form: object) -> bool:
+    """Whether a JSON value has a form: members, the form of each item or of all, rising ordinals, a number, a text, a
+    type."""
     if form is ORDINALS:
         return formed(value, [int]) and all(low < high for low, high in zip(value, value[1:]))
+    if form is int:
+        return type(value) is int and 0 <= value < 2 ** 32
     if isinstance(form, type):
-        return type(value) is form and (form is not int or 0 <= value < 2 ** 32)
+        return type(value) is form
     if isinstance(form, dict):
         return isinstance(value, dict) and set(value) == set(form) and all(formed(value[it], form[it]) for it in form)
     if isinstance(form, tuple):
         return isinstance(value, list) and len(value) == len(form) and all(map(formed, value, form))
     if isinstance(form, list):
         return isinstance(value, list) and all(formed(it, form[0]) for it in value)
-    return value == form
+    return bool(value == form)
 
 
 @lru_cache(maxsize=None)
-def read_comparator(text):
-    """An operator, then one to three numbers, then a pre-release, whose numbers stand below its words; none for another text."""
-    found = len(text) <= MOST_BYTES and re.fullmatch(COMPARATOR, text)
-    numbers = [int(it) for it in found.groups()[1:4] if it] if found else []
+def read_comparator(text: str) -> tuple[str, Version] | None:
+    """An operator, then one to three numbers, then a pre-release, whose numbers stand below its words; none for another
+    text."""
+    found = re.fullmatch(COMPARATOR, text) if len(text) <= MOST_BYTES else None
+    numbers: list[Any] = [int(it) for it in found.groups()[1:4] if it] if found else []
     if not found or max(numbers) >= 2 ** 64:
         return None
     if len(numbers) == 3:
@@ -72,87 +91,111 @@ def read_comparator(text):
     return found[1] or ("=" if found[6] or found[7] else "^"), tuple(numbers)
 
 
-def read_version(text):
+def read_version(text: str) -> Version | None:
     """A version as it compares by precedence, so without build metadata; none for a text that is no version."""
-    _, version = read_comparator(text) or (None, ())
+    _, version = read_comparator(text) or ("", ())
     return version if len(version) == 4 and text[0].isdigit() else None
 
 
-def read_requirement(text):
+def precedence(text: str) -> Version:
+    """The same of a text that is known to be a version."""
+    version = read_version(text)
+    if version is None:
+        raise ValueError(f"{text} is no version")
+    return version
+
+
+def read_requirement(text: str) -> list[tuple[str, Version]] | None:
     """The comparators of a requirement; none for a text that is no requirement."""
     parts = [] if text.strip(" ") in ("*", "x", "X") else [read_comparator(it.strip(" ")) for it in text.split(",")]
-    return None if len(text) > MOST_BYTES or len(parts) > MOST_COMPARATORS or None in parts else parts
+    read = [it for it in parts if it]
+    return None if len(text) > MOST_BYTES or len(parts) > MOST_COMPARATORS or len(read) < len(parts) else read
 
 
-def passes(sign, bound, version):
+def passes(sign: str, bound: Version, version: Version) -> bool:
     """Whether a version passes one comparator, which may leave numbers out."""
     head, numbers, plain = version[:len(bound)], bound[:3], len(bound) == 4 or version[3] == RELEASE
     if sign == "^":
-        kept = next((place for place, number in enumerate(numbers, 1) if number), len(numbers))  # up to the first not zero
+        # up to the first not zero
+        kept = next((place for place, number in enumerate(numbers, 1) if number), len(numbers))
         return head[:kept] == bound[:kept] and head >= bound
     if sign == "~":
         return head[:2] == bound[:2] and head >= bound and plain
     return ("=" in sign and head == bound and plain) or (">" in sign and head > bound) or ("<" in sign and head < bound)
 
 
-def admits(requirement, version):
-    """Whether a version meets a requirement; a pre-release wants a comparator with a pre-release of the same numbers."""
+def admits(requirement: str, version: Version) -> bool:
+    """Whether a version meets a requirement; a pre-release wants a comparator with a pre-release of the same
+    numbers."""
     comparators = read_requirement(requirement)
+    assert comparators is not None
     opened = any(len(bound) == 4 and bound[3] != RELEASE and bound[:3] == version[:3] for _, bound in comparators)
     return (opened or version[3] == RELEASE) and all(passes(*it, version) for it in comparators)
 
 
-def readable(names, needs, versions):
+def readable(names: Iterable[str], needs: Sequence[Sequence[str]], versions: Iterable[str]) -> bool:
     """Whether names, pairs of a package and its requirement, and versions may stand, and no package is needed twice."""
     targets = [target for target, _ in needs]
     return (all(map(NAME.fullmatch, [*names, *targets])) and len(set(targets)) == len(targets)
             and None not in [*map(read_version, versions), *(read_requirement(it) for _, it in needs)])
 
 
+class Release:
+    """A version that was published."""
+
+    def __init__(self, text: str, version: Version, needs: dict[str, str]) -> None:
+        self.text, self.version, self.needs, self.yanked = text, version, needs, False
+
+
 class Registry:
     """What was published and yanked, by the rules carried out once more."""
 
-    def __init__(self):
+    def __init__(self) -> None:
         self.numbers = {ROOT: 0}  # packages are numbered in order of first mention
-        self.releases = {}  # by package in order of publication: the place is the version's ordinal
+        # by package in order of publication: the place is the version's ordinal
+        self.releases: dict[str, list[Release]] = {}
         self.revision = 0
 
-    def matching(self, name, requirement):
+    def matching(self, name: str, requirement: str) -> frozenset[int]:
         """The ordinals of the published versions of a package that meet a requirement."""
-        return frozenset(place for place, it in enumerate(self.releases.get(name, [])) if admits(requirement, it.version))
+        held = self.releases.get(name, [])
+        return frozenset(place for place, it in enumerate(held) if admits(requirement, it.version))
 
-    def find(self, name, version):
+    def find(self, name: str, version: str) -> Release | None:
         asked = read_version(version)
         return next((it for it in self.releases.get(name, []) if it.version == asked), None)
 
-    def accepts(self, op, name, version, needs=()):
+    def accepts(self, op: str, name: str, version: str, needs: Sequence[Sequence[str]] = ()) -> bool:
         """Whether a command may be carried out, its limits aside."""
         found = self.find(name, version)
         fitting = found is None if op == "publish" else found is not None and found.yanked == (op == "unyank")
         return fitting and readable([name], needs, [version]) and name not in [target for target, _ in needs]
 
-    def obey(self, command, reply):
+    def obey(self, command: Object, reply: Object) -> bool:
         """Carries out a command if it was accepted, and says whether the reply to a line is as the rules have it."""
-        lawful, accepted = any(formed(command, form) for form in COMMANDS) and self.accepts(**command), reply.get("ok") is True
+        lawful = any(formed(command, form) for form in COMMANDS) and self.accepts(**command)
+        accepted = reply.get("ok") is True
         if not (lawful and accepted):
             return not accepted and (not lawful or reply.get("error") in UNSEEN)
         for it in [command["name"], *(target for target, _ in command.get("needs", []))]:
             self.numbers.setdefault(it, len(self.numbers))
             self.releases.setdefault(it, [])
-        if command["op"] == "publish":
-            new = SimpleNamespace(text=command["version"], version=read_version(command["version"]), needs=dict(command["needs"]), yanked=False)
-            self.releases[command["name"]].append(new)
+        name, text = command["name"], command["version"]
+        found = self.find(name, text)
+        if found:
+            found.yanked = command["op"] == "yank"
         else:
-            self.find(command["name"], command["version"]).yanked = command["op"] == "yank"
+            self.releases[name].append(Release(text, precedence(text), dict(command["needs"])))
         self.revision += 1
         return True
 
 
-def resolve(first, second, pivot):
+def resolve(first: Terms, second: Terms, pivot: str) -> Terms:
     """What follows from two incompatibilities: on the pivot the term of either, on every other package both."""
-    terms = {}
+    terms: Terms = {}
     for name in {*first, *second}:
-        pair, join = [it.get(name, ALWAYS) for it in (first, second)], any if name == pivot else all
+        pair = [it.get(name, ALWAYS) for it in (first, second)]
+        join: Callable[[Iterable[object]], bool] = any if name == pivot else all
         # a choice that neither set has, none among them, makes the terms true that say "not in"
         others = join(not inside for inside, _ in pair)
         named = {it for _, ordinals in pair for it in ordinals}
@@ -162,63 +205,71 @@ def resolve(first, second, pivot):
 
 
 class Judge:
-    """Judges one derivation. An incompatibility is a term by package: they may not all hold, and a missing one always does."""
+    """Judges one derivation. An incompatibility is a term by package: they may not all hold, and a missing one always
+    does."""
 
-    def __init__(self, registry, request):
-        asked = formed(request, RESOLVE) and readable(dict(request["lock"]), request["needs"], dict(request["lock"]).values())
+    def __init__(self, registry: Registry, request: Object) -> None:
+        lock = dict(request["lock"]) if formed(request, RESOLVE) else None
+        asked = lock is not None and readable(lock, request["needs"], lock.values())
         demand(asked, f"a derivation for what is no request that could be refused: {request}", ValueError)
-        self.registry, self.needs, self.conclusions = registry, request["needs"], []
+        self.registry, self.needs = registry, request["needs"]
+        self.conclusions: list[Terms] = []
         self.lock = {name: read_version(version) for name, version in request["lock"]}
 
-    def root(self):
+    def root(self) -> Terms:
         return {ROOT: (False, frozenset({0}))}
 
-    def line(self, line):
+    def line(self, line: int) -> Terms:
         demand(1 <= line <= len(self.conclusions), f"line {line} does not stand above it")
         return self.conclusions[line - 1]
 
-    def need(self, index):
+    def need(self, index: int) -> Terms:
         """The request needs a package in a version that meets the requirement."""
         demand(index < len(self.needs), f"the request has no need with index {index}")
         target, requirement = self.needs[index]
         return {**NEVER, target: (False, self.registry.matching(target, requirement))}
 
-    def disallowed(self, name, versions):
+    def disallowed(self, name: str, versions: Collection[int]) -> Terms:
         """None of the versions is allowed: each is not published, or is yanked and not named by the lock."""
         demand(name in self.registry.releases, f"there is no package {name}")
         held = self.registry.releases[name]
-        allowed = [it for it in versions if it < len(held) and (not held[it].yanked or held[it].version == self.lock.get(name))]
+        kept = self.lock.get(name)
+        allowed = [it for it in versions if it < len(held) and (not held[it].yanked or held[it].version == kept)]
         demand(not allowed, f"of {name} these ordinals are allowed: {allowed}")
         return {name: (True, frozenset(versions))}
 
-    def premise(self, name, need, target, versions, within):
+    def premise(self, name: str, need: str, target: str, versions: Collection[int], within: Collection[int]) -> Terms:
         """Each version needs the target with this requirement, and no version that meets it is left out of `within`."""
         held = self.registry.releases.get(name, [])
-        all_need = all(it < len(held) and held[it].needs.get(target) == need for it in versions)
-        demand(versions and all_need, f'a premise on {name} has no versions, or one that does not need {target} "{need}"')
-        demand(self.registry.matching(target, need).issubset(within), f'a version of {target} that meets "{need}" is left out')
+        needing = versions and all(it < len(held) and held[it].needs.get(target) == need for it in versions)
+        demand(needing, f'a premise on {name} has no versions, or one that does not need {target} "{need}"')
+        matching = self.registry.matching(target, need)
+        demand(matching.issubset(within), f'a version of {target} that meets "{need}" is left out')
         return {name: (True, frozenset(versions)), target: (False, frozenset(within))}
 
-    def cause(self, cause):
+    def cause(self, cause: Object) -> Terms:
         """What a cause says, by the method of its kind."""
-        kind = next((it for it in CAUSES if formed(cause, CAUSES[it])), None)
+        kind = next((it for it in CAUSES if formed(cause, CAUSES[it])), "")
         demand(kind, "a cause of no known form")
-        return getattr(self, kind)(**{member: value for member, value in cause.items() if member != "fact"})
+        terms: Terms = getattr(self, kind)(**{member: value for member, value in cause.items() if member != "fact"})
+        return terms
 
-    def terms(self, rows):
+    def terms(self, rows: Sequence[Sequence[Any]]) -> Terms:
         """A conclusion: its terms in order of package numbers, each package once."""
         numbers = [self.registry.numbers.get(name, -1) for name, _, _ in rows]
-        demand(all(low < high for low, high in zip([-1, *numbers], numbers)), "terms out of package order, or on no package")
+        in_order = all(low < high for low, high in zip([-1, *numbers], numbers))
+        demand(in_order, "terms out of package order, or on no package")
         return {name: (inside, frozenset(ordinals)) for name, inside, ordinals in rows}
 
-    def conclude(self, row):
+    def conclude(self, row: Object) -> None:
         """Takes the conclusion of a line, which has to be what follows from its two causes on its pivot."""
         (first, second), terms, pivot = map(self.cause, row["causes"]), self.terms(row["conclusion"]), row["pivot"]
         demand(not first.get(pivot, ALWAYS) == ALWAYS == second.get(pivot, ALWAYS), "neither cause speaks of the pivot")
-        demand(resolve(first, second, pivot) == terms, f"the conclusion is not what the causes give on {pivot or 'the request'}")
+        follows = resolve(first, second, pivot) == terms
+        demand(follows, f"the conclusion is not what the causes give on {pivot or 'the request'}")
         self.conclusions.append(terms)
 
-    def judge(self, rows):
+    def judge(self, rows: Any) -> None:
         """Goes on only where the lines are a derivation."""
         demand(rows and formed(rows, [LINE]), "there is no derivation of the right form")
         for number, row in enumerate(rows, 1):
@@ -229,12 +280,12 @@ class Judge:
         demand(self.conclusions[-1] in ({}, NEVER), "the last line does not say that the request can't be met")
 
 
-def bytes_of(path):
+def bytes_of(path: str) -> bytes:
     with open(path, "rb") as file:
         return file.read()
 
 
-def read_lines(path):
+def read_lines(path: str) -> list[dict[str, Any]]:
     """The object of each line of a file; an empty one for a line that has none."""
     import json  # who asks for a judge alone does not wait for it
     objects = []
@@ -246,29 +297,33 @@ def read_lines(path):
     return [it if isinstance(it, dict) else {} for it in objects]
 
 
-def read_journal(path):
+def read_journal(path: str) -> list[dict[str, Any]]:
     """The commands of a journal file."""
     lines = bytes_of(path).split(b"\n")
-    demand(lines[0] in (b"registry-journal 1", b"registry-journal 2") and lines[-2:] == [b"end %d" % (len(lines) - 3), b""], "a cut journal", ValueError)
+    end = [b"end %d" % (len(lines) - 3), b""]
+    head = lines[0] in (b"registry-journal 1", b"registry-journal 2")
+    demand(head and lines[-2:] == end, "a cut journal", ValueError)
     return [it for it in read_lines(path)[1:-1] if it.get("op") != "learn"]
 
 
-def session(requests, replies, journal):
+def session(requests: Sequence[Object], replies: Sequence[Object],
+            journal: Sequence[Object] | None) -> Iterator[tuple[Object, Object, Registry]]:
     """Each request with its reply and the registry that the reply speaks of."""
     registry = Registry()
     for number, (request, reply) in enumerate(zip(requests, replies), 1):
-        revision = reply.get("revision")
+        revision: Any = reply.get("revision")
         if journal is None:
             demand(registry.obey(request, reply), f"reply {number} accepts or refuses against the rules", ValueError)
         elif formed(revision, int):
             registry = registry if registry.revision <= revision else Registry()
             for command in journal[registry.revision:revision]:
-                demand(registry.obey(command, {"ok": True}), "the journal has a command that the rules refuse", ValueError)
+                is_lawful = registry.obey(command, {"ok": True})
+                demand(is_lawful, "the journal has a command that the rules refuse", ValueError)
         demand(revision == registry.revision, f"reply {number} is not of revision {registry.revision}", ValueError)
         yield request, reply, registry
 
 
-def audit(requests, replies, journal):
+def audit(requests: Sequence[Object], replies: Sequence[Object], journal: Sequence[Object] | None) -> int:
     """Judges each refusal that has a derivation or was asked for one, says how it went, and answers the status."""
     told = []
     for number, (request, reply, registry) in enumerate(session(requests, replies, journal), 1):
@@ -284,16 +339,19 @@ def audit(requests, replies, journal):
     return int(told.count("follows") < len(told))
 
 
-def main(words):
+def main(words: Sequence[str]) -> int:
     import argparse  # nor for this
-    parser = argparse.ArgumentParser(prog="tools/check_derivation.py", description=__doc__, formatter_class=argparse.RawDescriptionHelpFormatter)
-    for word, more in (("--journal", {}), ("lines", {}), ("replies", {"nargs": "?"})):
-        parser.add_argument(word, **more)
+    parser = argparse.ArgumentParser(prog="tools/check_derivation.py", description=__doc__,
+                                     formatter_class=argparse.RawDescriptionHelpFormatter)
+    parser.add_argument("--journal")
+    parser.add_argument("lines")
+    parser.add_argument("replies", nargs="?")
     given = parser.parse_args(words)
     try:
         lines = read_lines(given.lines)
         requests, replies = (lines, read_lines(given.replies)) if given.replies else (lines[::2], lines[1::2])
-        demand(len(requests) == len(replies), f"there are {len(requests)} request lines and {len(replies)} replies", ValueError)
+        counts = f"{len(requests)} request lines and {len(replies)} replies"
+        demand(len(requests) == len(replies), f"there are {counts}", ValueError)
         return audit(requests, replies, read_journal(given.journal) if given.journal else None)
     except (ValueError, OSError) as fault:
         print(f"there is no judging it: {fault}")

@@ -1,23 +1,32 @@
 """Reads the words of a command line, by the table."""
+from __future__ import annotations
+
 from types import SimpleNamespace
 
+from . import TYPE_CHECKING
 from .failures import Usage
 from .table import COMMON, SUBCOMMANDS, subcommand
+
+if TYPE_CHECKING:
+    from collections.abc import Sequence
+
+    from .shapes import Given
+    from .table import Subcommand, Word
 
 HELP = "`registry --help`"
 GENERAL = ("--help", "-h", "--version", "-V", "--manual", "--completion", "--complete")
 # subcommands that have other names elsewhere
-ELSEWHERE = {"add": "publish", "release": "publish", "remove": "yank", "delete": "yank", "unpublish": "yank", "install": "resolve",
-             "solve": "resolve", "update": "upgrade", "info": "show", "view": "show", "ls": "list", "find": "search",
-             "explain": "why", "version": "--version"}
+ELSEWHERE = {"add": "publish", "release": "publish", "remove": "yank", "delete": "yank", "unpublish": "yank",
+             "install": "resolve", "solve": "resolve", "update": "upgrade", "info": "show", "view": "show",
+             "ls": "list", "find": "search", "explain": "why", "version": "--version"}
 
 
-def asked_help(words):
+def asked_help(words: list[str]) -> list[str]:
     """A command line in which `help` stands before a subcommand, as one that has `--help` behind it."""
     return [*asked_help(words[1:]), "--help"] if words[:1] == ["help"] else words
 
 
-def split(words):
+def split(words: list[str]) -> tuple[Subcommand | None, list[str]]:
     """The subcommand of a command line, none where it names none, and the other words."""
     valued = {flag: bool(it.names) for it in COMMON for flag in flags(it)}
     at = 0
@@ -35,12 +44,12 @@ def split(words):
     raise Usage(unknown(words[at], words[at + 1:at + 2]))
 
 
-def flags(of):
+def flags(word: Word) -> list[str]:
     """The ways to write an option: in short, and whole."""
-    return [it for it in (of.short, of.flag) if it]
+    return [it for it in (word.short, word.flag) if it]
 
 
-def unknown(first, following):
+def unknown(first: str, following: Sequence[str]) -> str:
     """What is said of words that name no subcommand."""
     below = [it.name.split(" ")[1] for it in SUBCOMMANDS if it.name.startswith(first + " ")]
     if below:
@@ -51,10 +60,12 @@ def unknown(first, following):
     return f"there is no subcommand {first}" + (f"; did you mean {near}? See {HELP}" if near else f": see {HELP}")
 
 
-def parted(of, words):
+def parted(found: Subcommand, words: Sequence[str]) -> list[str]:
     """The words of a subcommand, a package and its version apart where they stand in one word, as `log@1.0.0`."""
-    options = {flag: it for it in (*of.words, *COMMON) for flag in flags(it)}
-    made, places, awaited = [], [it.names[0] for it in of.words if not it.flag], []
+    options = {flag: it for it in (*found.words, *COMMON) for flag in flags(it)}
+    made: list[str] = []
+    awaited: list[str] = []
+    places = [it.names[0] for it in found.words if not it.flag]
     for it in words:
         if it in options:
             awaited = list(options[it].names)
@@ -69,51 +80,51 @@ def parted(of, words):
     return made
 
 
-def read(of, words):
-    """The values of a subcommand's words by their names. To load argparse takes longer than most subcommands: it reads only what asks
-    for help, is written in a rare way, or is wrong."""
+def read(found: Subcommand, words: Sequence[str]) -> Given:
+    """The values of a subcommand's words by their names. To load argparse takes longer than most subcommands: it reads
+    only what asks for help, is written in a rare way, or is wrong."""
     try:
-        return SimpleNamespace(**plain(of, words))
+        return SimpleNamespace(**plain(found, words))
     except ValueError:
         from .parsing import reader
-        return reader(of).parse_intermixed_args(words)
+        return reader(found).parse_intermixed_args(words)
 
 
-def plain(of, words):
+def plain(found: Subcommand, words: Sequence[str]) -> dict[str, object]:
     """The same of words that are written as the table has them; a ValueError where others are among them."""
-    options = {flag: it for it in (*of.words, *COMMON) for flag in flags(it)}
-    given = {it.member: it.default if it.names else False for it in (*of.words, *COMMON)}
+    options = {flag: it for it in (*found.words, *COMMON) for flag in flags(it)}
+    given: dict[str, object] = {it.member: it.default if it.names else False for it in (*found.words, *COMMON)}
     free, rest = [], iter(words)
-    for word in rest:
-        it = options.get(word)
-        if it is None:
-            free.append(word)
+    for text in rest:
+        option = options.get(text)
+        if option is None:
+            free.append(text)
         else:
-            given[it.member] = value(it, [next(rest, "-") for _ in it.names])
-    for it in of.words:
-        if it.many == "*" and not it.flag:
-            given[it.member], free = [value(it, [text]) for text in free], []
-        elif not it.flag and (free or not it.many):
-            given[it.member], free = value(it, free[:1]), free[1:]
+            given[option.member] = value(option, [next(rest, "-") for _ in option.names])
+    for word in found.words:
+        if word.many == "*" and not word.flag:
+            given[word.member], free = [value(word, [text]) for text in free], []
+        elif not word.flag and (free or not word.many):
+            given[word.member], free = value(word, free[:1]), free[1:]
     if free:
         raise ValueError(free)
     return given
 
 
-def value(of, texts):
+def value(word: Word, texts: list[str]) -> bool | int | str | list[str]:
     """What a word or an option makes of texts; a ValueError where it does not take them, or however many there are."""
-    if not of.names:
+    if not word.names:
         return True
-    if not texts or any(it.startswith("-") for it in texts) or of.flag and of.many:
+    if not texts or any(it.startswith("-") for it in texts) or word.flag and word.many:
         raise ValueError(texts)
-    if isinstance(of.takes, range):
-        return number(texts[0], of.takes)
-    if isinstance(of.takes, tuple) and texts[0] not in of.takes:
+    if isinstance(word.takes, range):
+        return number(texts[0], word.takes)
+    if isinstance(word.takes, tuple) and texts[0] not in word.takes:
         raise ValueError(texts)
-    return texts if len(of.names) > 1 else texts[0]
+    return texts if len(word.names) > 1 else texts[0]
 
 
-def number(text, numbers):
+def number(text: str, numbers: range) -> int:
     """A text as one of these numbers."""
     if not (text.isascii() and text.isdigit() and int(text) in numbers):
         raise ValueError(text)

@@ -1,8 +1,16 @@
 """Completion: what may stand at the end of a command line of `registry`, by the table, or of `registryd`, and the few
 lines of each shell that ask for it."""
+from __future__ import annotations
+
+from . import TYPE_CHECKING
 from .command_line import split
 from .failures import Failure
 from .table import COMMON, FILE, FOLDER, NEED, PACKAGE, SUBCOMMANDS, VERSION
+
+if TYPE_CHECKING:
+    from collections.abc import Iterable, Sequence
+
+    from .table import Subcommand, Takes, Word
 
 # Each asks `registry --complete WORD ..`, of the program's words with `registryd` before them: the first line answered
 # says what may stand there, the others are words.
@@ -60,8 +68,9 @@ GENERAL = ("--help", "--version")
 UNBOUNDED = 10 ** 9  # words that an option takes
 
 
-def complete(words):
-    """The lines that are answered for words of which the last one is being typed: `file`, `folder` or `words`, then words."""
+def complete(words: Sequence[str]) -> list[str]:
+    """The lines that are answered for words of which the last one is being typed: `file`, `folder` or `words`, then
+    words."""
     is_program = words[:1] == ["registryd"]
     *before, current = words[is_program:] or [""]
     before = [it for it in before if it != "="]  # bash takes the sign of --option=VALUE for a word
@@ -71,7 +80,7 @@ def complete(words):
     return [kind, *sorted({whole + it for it in offered if it.startswith(value)})]
 
 
-def of_program(before, current):
+def of_program(before: list[str], current: str) -> tuple[str, Sequence[str]]:
     """What may stand behind some words of the program, and those words that are known."""
     of = next((it for it in before if it in PROGRAM), None)
     if of is None:
@@ -83,33 +92,36 @@ def of_program(before, current):
     return "words", [*(it for it in PROGRAM[of] if it not in before), "--help"] if PROGRAM[of] else ["serve", "race"]
 
 
-def candidates(before, current):
+def candidates(before: list[str], current: str) -> tuple[str, Sequence[str]]:
     """What may stand behind some words, and those words that are known."""
     before = before[before[:1] == ["help"]:]
     valued = {it.flag: it for it in COMMON if it.names}
     if before and before[-1] in valued:
         return of_kind(valued[before[-1]].takes, before, None)
     try:
-        of, rest = split(before)
+        subcommand, rest = split(before)
     except Failure:
-        first = " ".join(it for place, it in enumerate(before) if not it.startswith("-") and before[place - 1] not in valued)
+        told = (it for place, it in enumerate(before) if not it.startswith("-") and before[place - 1] not in valued)
+        first = " ".join(told)
         return "words", [it.name.split(" ")[1] for it in SUBCOMMANDS if it.name.startswith(first + " ")]
-    if of is None:
+    if subcommand is None:
         return "words", [*(it.name.split(" ")[0] for it in SUBCOMMANDS), "help", *flags(COMMON), *GENERAL]
     if current.startswith("-"):
-        return "words", [*flags(of.words), *flags(COMMON), "--help"]
-    takes, given = awaited(of, rest)
-    return of_kind(takes, before, given) if takes else ("words", [])
+        return "words", [*flags(subcommand.words), *flags(COMMON), "--help"]
+    takes, last = awaited(subcommand, rest)
+    return of_kind(takes, before, last) if takes else ("words", [])
 
 
-def flags(words):
+def flags(words: Iterable[Word]) -> list[str]:
     return [it.flag for it in words if it.flag]
 
 
-def awaited(of, rest):
-    """What the word or option of a subcommand takes whose value comes next, nothing where no more is taken; and the word before it."""
-    options = {it.flag: it for it in (*of.words, *COMMON) if it.flag}
-    places, taken, open_option, left = [it for it in of.words if not it.flag], 0, None, 0
+def awaited(subcommand: Subcommand, rest: Sequence[str]) -> tuple[Takes | None, str | None]:
+    """What the word or option of a subcommand takes whose value comes next, nothing where no more is taken; and the
+    word before it."""
+    options = {it.flag: it for it in (*subcommand.words, *COMMON) if it.flag}
+    places, taken, left = [it for it in subcommand.words if not it.flag], 0, 0
+    open_option: Word | None = None
     for it in rest:
         if it in options:
             open_option = options[it]
@@ -119,7 +131,7 @@ def awaited(of, rest):
         else:
             taken += 1
     before = rest[-1] if rest else None
-    if left:
+    if left and open_option:
         is_version = left == 1 and open_option.names[-1] == "VERSION"
         return VERSION if is_version else open_option.takes, before
     if taken < len(places) or (places and places[-1].many in ("*", "+")):
@@ -127,19 +139,20 @@ def awaited(of, rest):
     return None, before
 
 
-def of_kind(takes, before, given):
+def of_kind(takes: Takes, before: Sequence[str], last: str | None) -> tuple[str, Sequence[str]]:
     """What is offered for a kind of value."""
-    if takes in (FILE, FOLDER):
-        return takes, []
     if isinstance(takes, tuple):
         return "words", takes
+    if takes in (FILE, FOLDER):
+        return str(takes), []
     if takes in (PACKAGE, NEED, VERSION):
-        return "words", published(before, given if takes == VERSION else None)
+        return "words", published(before, last if takes == VERSION else None)
     return "words", []
 
 
-def published(before, name):
-    """The names of the packages, or the versions of one; nothing where no journal can be read and no service answers."""
+def published(before: Sequence[str], name: str | None) -> list[str]:
+    """The names of the packages, or the versions of one; nothing where no journal can be read and no service
+    answers."""
     from types import SimpleNamespace
 
     from .refusals import listed

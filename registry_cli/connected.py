@@ -1,5 +1,7 @@
-"""A session with a service, over its socket. Where the connection breaks off it is made again, and what has no reply is asked again;
-of a command it is looked up first whether it was carried out."""
+"""A session with a service, over its socket. Where the connection breaks off it is made again, and what has no reply is
+asked again; of a command it is looked up first whether it was carried out."""
+from __future__ import annotations
+
 import contextlib
 import itertools
 import json
@@ -9,11 +11,19 @@ import threading
 import time
 from collections import deque
 
-from . import near_limits
+from . import TYPE_CHECKING, near_limits
 from .catalog import commands_in
 from .failures import Failed, Refused
 from .searching import asking
 from .session import EMPTY
+
+if TYPE_CHECKING:
+    from collections.abc import Iterator, Sequence
+    from typing import TypeVar
+
+    from .shapes import Reply, Request
+
+    Self = TypeVar("Self", bound="Connected")
 
 PATIENCE, PAUSE = 10, 0.2  # seconds in which a service that is begun again is waited for
 SMALL = 32_768  # bytes that a socket takes at once
@@ -25,7 +35,7 @@ class Lost(Exception):
     """The connection has ended, or a program of the service: what was asked may have been carried out or not."""
 
 
-def connect(address):
+def connect(address: str) -> socket.socket:
     """A connection to a service, whose address is the path of its socket, or HOST:PORT."""
     host, colon, port = address.rpartition(":")
     connection = None
@@ -44,23 +54,24 @@ def connect(address):
         raise Failed(f"no service answers at {address}: {getattr(fault, 'strerror', None) or fault}{meant}") from None
 
 
-def page_of_service(address, target):
+def page_of_service(address: str, target: str) -> bytes:
     """What a service answers over HTTP."""
     with connect(address) as connection:
         connection.sendall(f"GET {target} HTTP/1.0\r\n\r\n".encode())
         with connection.makefile("rb") as answer:
             head, _, text = answer.read().partition(b"\r\n\r\n")
     if not re.match(rb"HTTP/1\.[01] 200 ", head):
-        raise Failed(f"the service at {address} does not tell its journal now: {text.decode(errors='replace').strip()}")
+        reason = text.decode(errors="replace").strip()
+        raise Failed(f"the service at {address} does not tell its journal now: {reason}")
     return text
 
 
-def journal_of_service(address, revision=""):
+def journal_of_service(address: str, revision: int | None = None) -> bytes:
     """The journal of a service as a file has it: as it stands, or as it stood at a revision."""
-    return page_of_service(address, f"/journal{revision and f'?revision={revision}'}")
+    return page_of_service(address, "/journal" + ("" if revision is None else f"?revision={revision}"))
 
 
-def line_of(request):
+def line_of(request: Request) -> bytes:
     """A request as a journal has it, where it is a command."""
     return json.dumps(request, sort_keys=True, separators=(",", ":"), ensure_ascii=False).encode()
 
@@ -70,36 +81,38 @@ class Connected:
 
     is_ended = False
 
-    def __init__(self, address):
+    def __init__(self, address: str) -> None:
         self.path, self.revision, self.text = address, 0, b""
         self.open()
         self.ask(EMPTY)  # so the revision is known at which commands begin
 
-    def open(self):
+    def open(self) -> None:
         self.connection = connect(self.path)
         self.replies = self.connection.makefile("rb")
 
-    def ask(self, *requests):
+    def ask(self, *requests: Request) -> list[Reply]:
         """The replies to requests, together."""
         with asking(self, requests):
             return list(self.each(requests))
 
-    def end_search(self):
+    def end_search(self) -> None:
         """Waits no longer: a service ends a search by itself."""
         self.is_ended = True
         with contextlib.suppress(OSError):
             self.connection.shutdown(socket.SHUT_RDWR)
 
-    def each(self, requests):
+    def each(self, requests: Sequence[Request]) -> Iterator[Reply]:
         """The replies to requests, each as it comes."""
-        waiting, done, limit = deque(requests), {}, time.monotonic() + PATIENCE
+        waiting, limit = deque(requests), time.monotonic() + PATIENCE
+        done: dict[bytes, int] = {}
         while waiting:
             if done and line_of(waiting[0]) in done:
                 self.revision = done[line_of(waiting.popleft())]
                 yield {"ok": True, "revision": self.revision}
                 continue
             try:
-                for reply in self.exchange(list(itertools.takewhile(lambda it: not done or line_of(it) not in done, waiting))):
+                rest = list(itertools.takewhile(lambda it: not done or line_of(it) not in done, waiting))
+                for reply in self.exchange(rest):
                     waiting.popleft()
                     self.revision, limit = reply["revision"], time.monotonic() + PATIENCE
                     yield reply
@@ -108,7 +121,7 @@ class Connected:
                     raise Failed(f"the service at {self.path} was not waited for") from None
                 done = self.again(limit)
 
-    def exchange(self, requests):
+    def exchange(self, requests: Sequence[Request]) -> Iterator[Reply]:
         text = b"".join(json.dumps(it, separators=(",", ":")).encode() + b"\n" for it in requests)
         if len(text) < SMALL:
             self.connection.sendall(text)
@@ -118,7 +131,7 @@ class Connected:
             line = self.replies.readline()
             if not line.endswith(b"\n"):
                 raise Lost
-            reply = json.loads(line)
+            reply: Reply = json.loads(line)
             if reply.get("error") == UNAVAILABLE:
                 if "reason" in reply:
                     raise Failed(f"the service at {self.path} accepts nothing now: {reply['reason']}")
@@ -126,13 +139,13 @@ class Connected:
             yield reply
 
     @staticmethod
-    def send(connection, text):
+    def send(connection: socket.socket, text: bytes) -> None:
         with contextlib.suppress(OSError):  # who reads the replies is told
             connection.sendall(text)
 
-    def again(self, limit):
-        """Connects again. Answers the commands that were accepted since the last reply, each with its revision: one that waits for its
-        reply and is among them was carried out."""
+    def again(self, limit: float) -> dict[bytes, int]:
+        """Connects again. Answers the commands that were accepted since the last reply, each with its revision: one
+        that waits for its reply and is among them was carried out."""
         while True:
             self.leave()
             time.sleep(PAUSE)
@@ -142,29 +155,29 @@ class Connected:
                 return {line: self.revision + number for number, line in enumerate(lines, 1)}
             except (Failed, OSError) as fault:
                 if time.monotonic() > limit:
-                    raise Failed(f"the service at {self.path} broke off before it had answered, and does not come back: a command that was "
-                                 f"under way may have been accepted") from fault
+                    what = "does not come back: a command that was under way may have been accepted"
+                    raise Failed(f"the service at {self.path} broke off before it had answered, and {what}") from fault
 
-    def journal(self):
+    def journal(self) -> bytes:
         """The journal's text at the revision of the last reply."""
         self.text = journal_of_service(self.path, self.revision)
         return self.text
 
-    def commands(self):
+    def commands(self) -> list[Request]:
         """The accepted commands, in order, at the same revision."""
         return [json.loads(it) for it in commands_in(self.journal())]
 
-    def close(self):
+    def close(self) -> None:
         """Nothing is to be waited for: what was told as accepted is kept."""
 
-    def leave(self):
+    def leave(self) -> None:
         self.replies.close()
         self.connection.close()
 
-    def __enter__(self):
+    def __enter__(self: Self) -> Self:
         return self
 
-    def __exit__(self, kind, *_):
+    def __exit__(self, kind: type[BaseException] | None, *_: object) -> None:
         self.leave()
         if (kind is None or issubclass(kind, Refused)) and self.text:
             near_limits.warn(self.path, self.text)

@@ -1,19 +1,35 @@
-"""What a derivation says, step by step in English: which versions a set is, what a fact says, and what a step concludes.
+"""What a derivation says, step by step in English: which versions a set is, what a fact says, and what a step
+concludes.
 
 A range of versions means those that are published, by precedence.
 """
+from __future__ import annotations
+
 import json
 import re
 
+from . import TYPE_CHECKING
 from .check_derivation import NEVER, ROOT, Judge, read_version
+
+if TYPE_CHECKING:
+    from collections.abc import Collection, Iterable, Mapping, Sequence
+    from typing import Union
+
+    from .check_derivation import Registry, Terms
+    from .shapes import Cause, Request, Row
+
+    Told = tuple[frozenset[int], str]  # what a requirement admits, with its text
+    Node = Union["Fact", "Step"]
+    # a package and some of its versions, and what tells these apart from the same of another who needs something
+    Whose = Union[tuple[str, frozenset[int]], tuple[str, frozenset[int], str]]
 
 FAILED, NOTHING = "resolving failed", "nothing is said of {}"
 THE_REQUEST = (ROOT, frozenset({0}))
-THE_SELECTION = (*THE_REQUEST, "with the versions that it has")
+THE_SELECTION = (ROOT, frozenset({0}), "with the versions that it has")
 PLAIN = re.compile(r"[~^][^ ,]*|\*")
 
 
-def listed(texts, last):
+def listed(texts: Sequence[str], last: str) -> str:
     """Texts in a row: `a, b and c`."""
     return texts[0] if len(texts) == 1 else f"{', '.join(texts[:-1])} {last} {texts[-1]}"
 
@@ -21,27 +37,31 @@ def listed(texts, last):
 class Versions:
     """Names sets of a package's versions, as a registry has them."""
 
-    def __init__(self, registry):
-        self.registry, self.orders, self.admitted = registry, {}, {}
+    def __init__(self, registry: Registry) -> None:
+        self.registry = registry
+        self.orders: dict[str, list[int]] = {}
+        self.admitted: dict[tuple[str, str], frozenset[int]] = {}
 
-    def order(self, name):
+    def order(self, name: str) -> list[int]:
         """The ordinals of the published versions, by precedence."""
         if name not in self.orders:
             held = self.registry.releases.get(name, [])
             self.orders[name] = sorted(range(len(held)), key=lambda ordinal: held[ordinal].version)
         return self.orders[name]
 
-    def matching(self, name, requirement):
+    def matching(self, name: str, requirement: str) -> frozenset[int]:
         if (name, requirement) not in self.admitted:
             self.admitted[name, requirement] = self.registry.matching(name, requirement)
         return self.admitted[name, requirement]
 
-    def text(self, name, ordinal):
+    def text(self, name: str, ordinal: int) -> str:
         return self.registry.releases[name][ordinal].text
 
-    def spans(self, name, ordinals):
-        """The runs of neighbours in a set, the lowest first, each by its bounds: one version, or from one to below another."""
-        found, first, order = [], None, self.order(name)
+    def spans(self, name: str, ordinals: Collection[int]) -> list[list[str]]:
+        """The runs of neighbours in a set, the lowest first, each by its bounds: one version, or from one to below
+        another."""
+        found: list[list[str]] = []
+        first, order = None, self.order(name)
         for place, ordinal in enumerate([*order, None]):
             if ordinal in ordinals:
                 first = place if first is None else first
@@ -53,12 +73,14 @@ class Versions:
                 first = None
         return found
 
-    def every(self, name, ordinals, whole="every version of {}", most="every version of {}"):
+    def every(self, name: str, ordinals: frozenset[int], whole: str = "every version of {}",
+              most: str = "every version of {}") -> str:
         """A set of versions as one speaks of each: all, all but some where that is shorter, or those that there are."""
         published = frozenset(self.order(name))
         inside = published & ordinals
         if not inside:
-            return f"{name} {listed([f'#{it}' for it in sorted(ordinals)], 'or')}" if ordinals else f"no version of {name}"
+            unpublished = listed([f"#{it}" for it in sorted(ordinals)], "or") if ordinals else ""
+            return f"{name} {unpublished}" if ordinals else f"no version of {name}"
         if inside == published:
             return whole.format(name)
         spans, others = self.spans(name, inside), self.spans(name, published - inside)
@@ -66,19 +88,22 @@ class Versions:
             return f"{most.format(name)} but {listed([' '.join(it) for it in others], 'and')}"
         return f"{name} {listed([' '.join(it) for it in spans], 'or')}"
 
-    def some(self, name, ordinals):
+    def some(self, name: str, ordinals: frozenset[int]) -> str:
         """A set of versions as one speaks of any of them."""
         return self.every(name, ordinals, "{}", "any version of {}")
 
 
 class Fact:
-    """A cause that follows from nothing else. Of two that are told together the one of the lower rank comes first. `held` is a package
-    where it says which version of that the selection has."""
-    rank, held = 2, None
+    """A cause that follows from nothing else. Of two that are told together the one of the lower rank comes first.
+    `held` is a package where it says which version of that the selection has."""
+    rank = 2
+    held: str | None = None
 
-    def __init__(self, said, lacking=None, names=()):
-        """`lacking` is a package and a requirement where it says that nothing published meets it. `names` are the packages it is of."""
-        self.said, self.lacking, self.names, self.admitted = said, lacking, names, {}
+    def __init__(self, said: str, lacking: tuple[str, str] | None = None, names: tuple[str, ...] = ()) -> None:
+        """`lacking` is a package and a requirement where it says that nothing published meets it. `names` are the
+        packages it is of."""
+        self.said, self.lacking, self.names = said, lacking, names
+        self.admitted: dict[str, Told] = {}
 
 
 class Question(Fact):
@@ -87,19 +112,24 @@ class Question(Fact):
 
 
 class Dependency(Fact):
-    """Versions of a package, or the request, depend on a package; `within` has the versions that they leave to choose from."""
+    """Versions of a package, or the request, depend on a package; `within` has the versions that they leave to choose
+    from."""
     rank, verb = 0, "depends on"
 
-    def __init__(self, subject, whose, target, requirement, within):
+    def __init__(self, subject: str, whose: Whose, target: str, requirement: str,
+                 within: frozenset[int], has: str | None = None) -> None:
         # in quotes where it could be taken for a range of versions, which is another thing
         quoted = requirement if PLAIN.fullmatch(requirement) else f'"{requirement}"'
-        self.subject, self.whose, self.target, self.within, self.wanted = subject, whose, target, within, f"{target} {quoted}"
-        super().__init__(f"{subject} {self.verb} {self.wanted}", names=tuple(it for it in (whose[0], target) if it != ROOT))
+        self.subject, self.whose, self.target, self.within = subject, whose, target, within
+        self.wanted = f"{target} {has or quoted}"
+        names = tuple(it for it in (whose[0], target) if it != ROOT)
+        super().__init__(f"{subject} {self.verb} {self.wanted}", names=names)
         self.unmet = Fact(f"no version of {target} matches {quoted}", (target, requirement), (target,))
 
-    def leads_to(self, other, steps):
-        """Whether all versions that are left here have the other dependency, and what further versions have it is not asked."""
-        if not isinstance(other, Dependency) or other.whose[0] != self.target or not self.within <= other.whose[1]:
+    def leads_to(self, other: Dependency, steps: Iterable[Step]) -> bool:
+        """Whether all versions that are left here have the other dependency, and what further versions have it is not
+        asked."""
+        if other.whose[0] != self.target or not self.within <= other.whose[1]:
             return False
         return self.within == other.whose[1] or all(self.target not in step.terms for step in steps)
 
@@ -108,16 +138,15 @@ class Held(Dependency):
     """The selection has this version."""
     rank, verb = 1, "has"
 
-    def __init__(self, target, text, requirement, within):
-        super().__init__("the selection", THE_SELECTION, target, requirement, within)
-        self.held, self.wanted = target, f"{target} {text}"
-        self.said = f"{self.subject} {self.verb} {self.wanted}"
+    def __init__(self, target: str, text: str, requirement: str, within: frozenset[int]) -> None:
+        super().__init__("the selection", THE_SELECTION, target, requirement, within, text)
+        self.held = target
 
 
-def joined(first, second, steps):
+def joined(first: Fact, second: Fact, steps: Sequence[Step]) -> str:
     """What two facts say, in few words, between these steps."""
     for one, other in ((first, second), (second, first)):
-        if isinstance(one, Dependency) and one.leads_to(other, steps):
+        if isinstance(one, Dependency) and isinstance(other, Dependency) and one.leads_to(other, steps):
             return f"{one.said} which depends on {other.wanted}"
     if isinstance(first, Dependency) and isinstance(second, Dependency) and first.whose == second.whose:
         return f"{first.subject} {first.verb} both {first.wanted} and {second.wanted}"
@@ -127,67 +156,76 @@ def joined(first, second, steps):
 class Holding(Judge):
     """A judge for a request that needs just these versions of some packages: their others are not allowed either."""
 
-    def __init__(self, registry, request, versions):
+    def __init__(self, registry: Registry, request: Request, versions: Mapping[str, str]) -> None:
         super().__init__(registry, request)
         self.versions = versions
 
-    def disallowed(self, name, versions):
+    def disallowed(self, name: str, versions: Collection[int]) -> Terms:
         if holds(self.registry, self.versions, name, versions):
             return {name: (True, frozenset(versions))}
         return super().disallowed(name, versions)
 
 
-def holds(registry, held, name, versions):
+def holds(registry: Registry, held: Mapping[str, str], name: str, versions: Collection[int]) -> bool:
     """Whether just one version of a package is asked for, and is none of these."""
     wanted = read_version(held[name]) if name in held else None
-    return wanted is not None and wanted not in [it.version for ordinal, it in enumerate(registry.releases[name]) if ordinal in versions]
+    these = [it.version for ordinal, it in enumerate(registry.releases[name]) if ordinal in versions]
+    return wanted is not None and wanted not in these
 
 
 class Step:
     """What follows from two causes: a line of a derivation, or what a dependency means that no version meets."""
 
-    def __init__(self, terms, causes, number=None):
+    def __init__(self, terms: Terms, causes: list[Node], number: int | None = None) -> None:
         self.terms, self.causes, self.number = terms, causes, number
         # what a requirement admits is told by its text, for as long as just that is asked for
-        self.admitted = {name: told for cause in causes for name, told in cause.admitted.items()
-                         if terms.get(name) == (False, told[0])}
+        self.admitted: dict[str, Told] = {name: told for cause in causes for name, told in cause.admitted.items()
+                                          if terms.get(name) == (False, told[0])}
 
-    def below(self):
+    def below(self) -> list[Step]:
         """The causes that are steps."""
         return [it for it in self.causes if isinstance(it, Step)]
 
-    def facts(self):
+    def facts(self) -> list[Fact]:
         return [it for it in self.causes if isinstance(it, Fact)]
 
 
 class Derivation:
     """A derivation that follows, as the steps that its last one rests on; each stands after those that it cites."""
 
-    def __init__(self, registry, request, rows, asked=None, names=(), held=None):
-        """A need on the package `asked`, of a name and a version, is the question itself and no need of the request; one on a package that
-        is `held`, in a version, says what the selection has. `names` are the published packages, where the registry has not all of them."""
-        self.request = {"lock": [], "explain": True, "budget": 0, **request}
+    def __init__(self, registry: Registry, request: Request, rows: Sequence[Row], asked: tuple[str, str] | None = None,
+                 names: Iterable[str] = (), held: Mapping[str, str] | None = None) -> None:
+        """A need on the package `asked`, of a name and a version, is the question itself and no need of the request;
+        one on a package that is `held`, in a version, says what the selection has. `names` are the published packages,
+        where the registry has not all of them."""
+        usual: Request = {"lock": [], "explain": True, "budget": 0}
+        self.request = usual | request
         self.held = held or {}
         self.only = {**self.held, **dict([asked] if asked else [])}
         judge = Holding(registry, self.request, self.only)
         judge.judge(rows)
-        self.registry, self.versions, self.asked, self.facts, self.names = registry, Versions(registry), asked, {}, names
-        lines = []
+        self.registry, self.versions, self.asked, self.names = registry, Versions(registry), asked, names
+        self.facts: dict[str, Node] = {}
+        lines: list[Step] = []
         for row, terms in zip(rows, judge.conclusions):
             causes, number = [self.cause(it, lines) for it in row["causes"]], len(lines) + 1
             repeated = self.needless(causes)
-            lines.append(repeated if repeated and repeated.number else Step(terms, repeated.causes if repeated else causes, number))
+            if repeated and repeated.number:
+                lines.append(repeated)
+            else:
+                lines.append(Step(terms, repeated.causes if repeated else causes, number))
         self.steps = self.cut(lines)
         self.last = self.steps[-1]
 
-    def needless(self, causes):
-        """The step that a line repeats, where that says that the request can't be met and the line only adds that it must be."""
+    def needless(self, causes: list[Node]) -> Step | None:
+        """The step that a line repeats, where that says that the request can't be met and the line only adds that it
+        must be."""
         for root, other in (causes, causes[::-1]):
             if root is self.facts.get("root") and isinstance(other, Step) and other.terms == NEVER:
                 return other
         return None
 
-    def cut(self, lines):
+    def cut(self, lines: list[Step]) -> list[Step]:
         """The steps that the last line rests on, which are shared and not repeated."""
         used, open_steps = {lines[-1]}, [lines[-1]]
         while open_steps:
@@ -197,79 +235,85 @@ class Derivation:
                     open_steps.append(it)
         return [it for it in dict.fromkeys(lines) if it in used]
 
-    def reached(self):
+    def reached(self) -> dict[Step, None]:
         """The steps, with those that have no line of their own."""
         found = dict.fromkeys(self.steps)
         for step in self.steps:
             found.update(dict.fromkeys(step.below()))
         return found
 
-    def lacking(self):
+    def lacking(self) -> dict[tuple[str, str], None]:
         """Each package and requirement that nothing published meets, once."""
         return dict.fromkeys(fact.lacking for step in self.reached() for fact in step.facts() if fact.lacking)
 
-    def cause(self, cause, lines):
+    def cause(self, cause: Cause, lines: Sequence[Step]) -> Node:
         """A cause as a step or a fact, equal ones as one."""
         if "line" in cause:
             return lines[cause["line"] - 1]
         key = "root" if cause["fact"] == "root" else json.dumps(cause, sort_keys=True)
         if key not in self.facts:
-            self.facts[key] = getattr(self, cause["fact"])(**{member: value for member, value in cause.items() if member != "fact"})
+            members = {member: value for member, value in cause.items() if member != "fact"}
+            self.facts[key] = getattr(self, cause["fact"])(**members)
         return self.facts[key]
 
-    def root(self):
+    def root(self) -> Fact:
         return Fact("the request must be met")
 
-    def need(self, index):
+    def need(self, index: int) -> Node:
         target, requirement = self.request["needs"][index]
         admitted = self.versions.matching(target, requirement)
-        fact = Dependency("the request", THE_REQUEST, target, requirement, admitted)
+        fact: Fact = Dependency("the request", THE_REQUEST, target, requirement, admitted)
         if target in self.held:
             fact = Held(target, self.held[target], requirement, admitted)
         if self.asked and target == self.asked[0]:
             fact = self.question()
         return self.depended(fact, target, requirement, admitted, dict(NEVER))
 
-    def question(self):
+    def question(self) -> Fact:
+        assert self.asked
         return Question(" ".join(self.asked) + " is asked for", names=(self.asked[0],))
 
-    def premise(self, name, need, target, versions, within):
-        versions, within = frozenset(versions), frozenset(within)
-        fact = Dependency(self.versions.every(name, versions), (name, versions), target, need, within)
-        return self.depended(fact, target, need, within, {name: (True, versions)})
+    def premise(self, name: str, need: str, target: str, versions: Collection[int], within: Collection[int]) -> Node:
+        subject, left = frozenset(versions), frozenset(within)
+        fact = Dependency(self.versions.every(name, subject), (name, subject), target, need, left)
+        return self.depended(fact, target, need, left, {name: (True, subject)})
 
-    def depended(self, fact, target, requirement, within, terms):
-        """A dependency. Where it leaves no version to choose from, that is told as a fact of its own, and what both mean as a step."""
+    def depended(self, fact: Fact, target: str, requirement: str, within: frozenset[int], terms: Terms) -> Node:
+        """A dependency. Where it leaves no version to choose from, that is told as a fact of its own, and what both
+        mean as a step."""
         if not within:
             unpublished = Fact(f"no version of {target} is published", (target, requirement), (target,))
-            nothing = fact.unmet if self.registry.releases.get(target) else unpublished
+            has_versions = self.registry.releases.get(target)
+            nothing = fact.unmet if isinstance(fact, Dependency) and has_versions else unpublished
             return Step(terms, [fact, nothing])
-        is_told = isinstance(fact, Dependency) and (not fact.held or len(within) == 1)
-        if is_told and within & frozenset(self.versions.order(target)) == self.versions.matching(target, requirement):
-            fact.admitted = {target: (within, fact.wanted)}
+        if isinstance(fact, Dependency) and (not fact.held or len(within) == 1):
+            if within & frozenset(self.versions.order(target)) == self.versions.matching(target, requirement):
+                fact.admitted = {target: (within, fact.wanted)}
         return fact
 
-    def disallowed(self, name, versions):
+    def disallowed(self, name: str, versions: Collection[int]) -> Fact:
         if holds(self.registry, self.only, name, versions):
             return Held(name, self.held[name], "*", frozenset()) if name in self.held else self.question()
         published = frozenset(self.versions.order(name)) & frozenset(versions)
         locked = " and not in the lock" if self.request["lock"] else ""
-        said = [f"{self.versions.every(name, published)} is yanked{locked}"] if published else []
+        told = [f"{self.versions.every(name, published)} is yanked{locked}"] if published else []
         missing = frozenset(versions) - published
         if missing:
-            said.append(f"{self.versions.every(name, missing)} is not published")
-        return Fact(" and ".join(said) or NOTHING.format(name), names=(name,))
+            told.append(f"{self.versions.every(name, missing)} is not published")
+        return Fact(" and ".join(told) or NOTHING.format(name), names=(name,))
 
-    def conclusion(self, step):
+    def conclusion(self, step: Step) -> str:
         """What a step says."""
         terms = {name: term for name, term in step.terms.items() if name != ROOT}
         inside = [(name, ordinals) for name, (is_in, ordinals) in terms.items() if is_in]
         # a term that is true of no choice makes a line that says nothing
         if step.terms.get(ROOT, NEVER[ROOT]) != NEVER[ROOT] or any(not ordinals for _, ordinals in inside):
             return NOTHING.format(listed(list(terms), "and")) if terms else "the request must be met"
-        wanted = " or ".join(self.wanted(step, name, ordinals) for name, (is_in, ordinals) in terms.items() if not is_in)
+        outside = ((name, ordinals) for name, (is_in, ordinals) in terms.items() if not is_in)
+        wanted = " or ".join(self.wanted(step, name, ordinals) for name, ordinals in outside)
         if not inside:
-            return f"the {'selection' if self.held else 'request'} requires {wanted}" if wanted else "no selection meets the request"
+            who = "selection" if self.held else "request"
+            return f"the {who} requires {wanted}" if wanted else "no selection meets the request"
         if wanted and len(inside) == 1:
             return f"{self.versions.every(*inside[0])} requires {wanted}"
         named = [self.versions.some(*it) for it in inside]
@@ -278,6 +322,7 @@ class Derivation:
         return [f"{named[0]} is forbidden", f"{named[0]} is incompatible with {named[-1]}",
                 f"{listed(named, 'and')} are incompatible"][min(len(named), 3) - 1]
 
-    def wanted(self, step, name, ordinals):
-        """What a step asks for of a package: by the requirement that admits just that, if one did, else by its versions."""
+    def wanted(self, step: Step, name: str, ordinals: frozenset[int]) -> str:
+        """What a step asks for of a package: by the requirement that admits just that, if one did, else by its
+        versions."""
         return step.admitted[name][1] if name in step.admitted else self.versions.some(name, ordinals)

@@ -1,14 +1,27 @@
 """Pictures of a derivation and of a selection, as SVG.
 
-A derivation is a column of boxes, one a line, each below those that it rests on; a line on the left leads from a box to those
-that cite it. A selection is a staircase of packages: what a package needs is found to the right of it and then down.
+A derivation is a column of boxes, one a line, each below those that it rests on; a line on the left leads from a box to
+those that cite it. A selection is a staircase of packages: what a package needs is found to the right of it and then
+down.
 """
+from __future__ import annotations
+
 import textwrap
 
+from . import TYPE_CHECKING
 from .check_derivation import ROOT, demand
-from .derivation import FAILED, Fact, joined
+from .derivation import FAILED, Fact, Step, joined
 from .folding import MOST_SHOWN, cited, folded
 from .svg import arrow, dot, line, sheet, text, width
+
+if TYPE_CHECKING:
+    from collections.abc import Mapping, Sequence
+
+    from .check_derivation import Registry
+    from .derivation import Derivation
+    from .shapes import Request
+
+    Needs = Mapping[str, dict[str, str]]  # by package, or the request, what it needs with the requirement
 
 MARGIN = 16
 INK, FAINT, PAPER, EDGE, ALARM = "#222222", "#5c6b7a", "#f4f6f8", "#44546a", "#b3261e"
@@ -24,88 +37,105 @@ HALO = '<text paint-order="stroke" stroke="#ffffff" stroke-width="3"'
 # ---- a derivation
 
 class Box:
-    """A line of a derivation: its texts, and which lines it cites. `hidden` says how many lines it rests on that have no box; its
-    other reasons are left out then."""
+    """A line of a derivation: its texts, and which lines it cites. `hidden` says how many lines it rests on that have
+    no box; its other reasons are left out then."""
 
-    def __init__(self, derivation, step, failed, hidden=0):
+    def __init__(self, derivation: Derivation, step: Step, failed: str, hidden: int = 0) -> None:
         self.number, self.is_last, self.hidden = step.number, step is derivation.last, hidden
         self.cites = [] if hidden else [it.number for it in cited(step)]
-        # what has no line of its own is told by its facts
-        alone = [fact for it in step.causes for fact in (it.causes if it in step.below() and not it.number else [it]) if isinstance(fact, Fact)]
-        told = [joined(*alone, [step, *step.below()])] if len(alone) == 2 else [it.said for it in alone]
+        alone = facts_of(step)
+        told = [joined(alone[0], alone[1], [step, *step.below()])] if len(alone) == 2 else [it.said for it in alone]
         if hidden:
             told = [f"of {hidden} line{'s' * (hidden > 1)}, folded here"]
         self.said = textwrap.wrap(failed if self.is_last else derivation.conclusion(step), MOST_LETTERS)
-        self.why = textwrap.wrap("because " + " and ".join([*told, *(f"line {it}" for it in self.cites)]), MOST_LETTERS + 20)
+        told += [f"line {it}" for it in self.cites]
+        self.why = textwrap.wrap("because " + " and ".join(told), MOST_LETTERS + 20)
         self.high = 12 + (ROW + 2) * len(self.said) + ROW * len(self.why)
         self.top = 0.0
 
-    def wide(self):
+    def wide(self) -> float:
         return max(*(width(it, SAID) for it in self.said), *(width(it, WHY) for it in self.why))
 
-    def enters(self, number):
+    def enters(self, number: int | None) -> float:
         """How high the line from a cited one comes in."""
         return self.top + 11 + 9 * self.cites.index(number)
 
-    def leaves(self):
+    def leaves(self) -> float:
         return self.top + self.high - 7
 
-    def drawn(self, x, gutter, wide):
+    def drawn(self, x: float, gutter: float, wide: float) -> list[str]:
         """The box with its texts."""
         colour, y = ALARM if self.is_last else EDGE, self.top + 19
         dashes = ' stroke-dasharray="5 4"' if self.hidden else ""
-        said = [f'<rect x="{x:.0f}" y="{self.top:.0f}" width="{gutter + wide:.0f}" height="{self.high:.0f}" rx="5" fill="{PAPER}" '
-                f'stroke="{colour}" stroke-width="{2 if self.is_last else 1}"{dashes}/>', text(x + gutter - 8, y, str(self.number), WHY, FAINT, "end")]
+        outline = f'stroke="{colour}" stroke-width="{2 if self.is_last else 1}"{dashes}'
+        pieces = [f'<rect x="{x:.0f}" y="{self.top:.0f}" width="{gutter + wide:.0f}" height="{self.high:.0f}" rx="5" '
+                  f'fill="{PAPER}" {outline}/>', text(x + gutter - 8, y, str(self.number), WHY, FAINT, "end")]
         for row in self.said:
-            said.append(text(x + gutter, y, row, SAID, colour if self.is_last else INK))
+            pieces.append(text(x + gutter, y, row, SAID, colour if self.is_last else INK))
             y += ROW + 2
         for row in self.why:
-            said.append(text(x + gutter, y - 1, row, WHY, FAINT))
+            pieces.append(text(x + gutter, y - 1, row, WHY, FAINT))
             y += ROW
-        return said
+        return pieces
 
 
-def lanes_of(boxes):
+def facts_of(step: Step) -> list[Fact]:
+    """The facts that a step rests on; what has no line of its own is told by its facts."""
+    facts: list[Fact] = []
+    for cause in step.causes:
+        if isinstance(cause, Fact):
+            facts.append(cause)
+        elif not cause.number:
+            facts += cause.facts()
+    return facts
+
+
+def lanes_of(boxes: Sequence[Box]) -> dict[int | None, int]:
     """The lane of each line that is cited: short ways next to the boxes, and no two on one piece of a lane."""
-    ends = {}
+    ends: dict[int | None, int] = {}
     for place, box in enumerate(boxes):
         for number in box.cites:
             ends[number] = place
     starts = {box.number: place for place, box in enumerate(boxes)}
-    lanes, taken = {}, []
+    lanes: dict[int | None, int] = {}
+    taken: list[list[tuple[int, int]]] = []
     for number in sorted(ends, key=lambda it: (ends[it] - starts[it], starts[it])):
         start, end = starts[number], ends[number]
-        lane = next((at for at, ways in enumerate(taken) if all(end <= low or high <= start for low, high in ways)), len(taken))
+        free = (at for at, ways in enumerate(taken) if all(end <= low or high <= start for low, high in ways))
+        lane = next(free, len(taken))
         taken += [[]] if lane == len(taken) else []
         taken[lane].append((start, end))
         lanes[number] = lane
     return lanes
 
 
-def ways(boxes, lanes, left):
+def ways(boxes: Sequence[Box], lanes: Mapping[int | None, int], left: float) -> list[str]:
     """The lines from boxes to those that cite them, each with a dot where another one is cited before the last."""
-    said, by_number = [], {box.number: box for box in boxes}
+    pieces: list[str] = []
+    by_number = {box.number: box for box in boxes}
     for number, lane in lanes.items():
         x, colour, box = left - 14 - LANE * lane, COLOURS[lane % len(COLOURS)], by_number[number]
         citing = [it for it in boxes if number in it.cites]
-        said.append(line([(left, box.leaves()), (x, box.leaves()), (x, citing[-1].enters(number))], colour))
+        pieces.append(line([(left, box.leaves()), (x, box.leaves()), (x, citing[-1].enters(number))], colour))
         for it in citing:
             y = it.enters(number)
-            said += [line([(x, y), (left - 5, y)], colour), arrow(left, y, colour, right=1)]
-            said += [dot(x, y, colour)] if it is not citing[-1] else []
-    return said
+            pieces += [line([(x, y), (left - 5, y)], colour), arrow(left, y, colour, right=1)]
+            pieces += [dot(x, y, colour)] if it is not citing[-1] else []
+    return pieces
 
 
-def legend(derivation, boxes):
+def legend(derivation: Derivation, boxes: Sequence[Box]) -> list[str]:
     """How the picture is read, and how much of the derivation it shows."""
-    told = ["A box is a line of the derivation. It rests on what it names and on the boxes that lead to it from the left."]
+    told = ["A box is a line of the derivation. It rests on what it names and on the boxes that lead to it from the "
+            "left."]
     lines = sum(it.number is not None for it in derivation.steps)
     if lines > len(boxes):
-        told.append(f"{lines - len(boxes):,} of the {lines:,} lines are folded: a dashed box says what they lead to. The sentences tell all of them.")
+        folded_lines = f"{lines - len(boxes):,} of the {lines:,} lines are folded"
+        told.append(f"{folded_lines}: a dashed box says what they lead to. The sentences tell all of them.")
     return told
 
 
-def draw_derivation(derivation, title, failed=FAILED, most=MOST_SHOWN):
+def draw_derivation(derivation: Derivation, title: str, failed: str = FAILED, most: float = MOST_SHOWN) -> str:
     """The picture of a derivation, folded where it has more than so many lines."""
     title = textwrap.shorten(title, MOST_LETTERS, placeholder=" ..")
     boxes = [Box(derivation, step, failed, hidden) for step, hidden in folded(derivation, most).items()]
@@ -114,33 +144,35 @@ def draw_derivation(derivation, title, failed=FAILED, most=MOST_SHOWN):
     left = MARGIN + 14 + LANE * (max(lanes.values(), default=-1) + 1)
     gutter = 20 + width(str(boxes[-1].number), WHY)
     wide = 12 + max(*(box.wide() for box in boxes), width(title, SAID), *(width(it, WHY) for it in told))
-    y = MARGIN + 28 + 14 * len(told)
+    y: float = MARGIN + 28 + 14 * len(told)
     for box in boxes:
         box.top = y
         y += box.high + GAP
-    said = [text(left, MARGIN + 12, title, SAID), *(text(left, MARGIN + 28 + 14 * at, it, WHY, FAINT) for at, it in enumerate(told)),
-            *ways(boxes, lanes, left)]
+    rows = [text(left, MARGIN + 28 + 14 * at, it, WHY, FAINT) for at, it in enumerate(told)]
+    pieces = [text(left, MARGIN + 12, title, SAID), *rows, *ways(boxes, lanes, left)]
     for box in boxes:
-        said += box.drawn(left, gutter, wide)
-    return sheet(left + gutter + wide + MARGIN, y - GAP + MARGIN, said)
+        pieces += box.drawn(left, gutter, wide)
+    return sheet(left + gutter + wide + MARGIN, y - GAP + MARGIN, pieces)
 
 
 # ---- a selection
 
-def needs_of(registry, request, selected):
+def needs_of(registry: Registry, request: Request, selected: Mapping[str, str]) -> dict[str, dict[str, str]]:
     """What the request and each selected package need, with the requirement, by package."""
     needs = {ROOT: dict(request["needs"])}
     for name, version in selected.items():
         release = registry.find(name, version)
-        demand(release, f"{name} {version} was selected and is not published", ValueError)
+        if release is None:
+            raise ValueError(f"{name} {version} was selected and is not published")
         needs[name] = release.needs
     demand(all(it in needs for row in needs.values() for it in row), "the selection lacks what it needs", ValueError)
     return needs
 
 
-def from_above(needs):
+def from_above(needs: Needs) -> list[str]:
     """The packages, each above those that it needs, but where they need each other."""
-    order, seen, open_names = [], {ROOT}, [(ROOT, reversed(needs[ROOT]))]
+    order: list[str] = []
+    seen, open_names = {ROOT}, [(ROOT, reversed(needs[ROOT]))]
     while open_names:
         name, rest = open_names[-1]
         below = next((it for it in rest if it not in seen), None)
@@ -153,32 +185,35 @@ def from_above(needs):
     return order[::-1]
 
 
-def stairs(needs, order, places, labels):
-    """The ways from each package to what it needs: right to the other's column and down, or back beneath the names and up."""
-    said, at = [], {name: place for place, name in enumerate(order)}
+def stairs(needs: Needs, order: Sequence[str], places: Mapping[str, tuple[float, float]],
+           labels: Mapping[str, str]) -> list[str]:
+    """The ways from each package to what it needs: right to the other's column and down, or back beneath the names and
+    up."""
+    pieces: list[str] = []
+    at = {name: place for place, name in enumerate(order)}
     for name in order:
         x, y = places[name]
         colour = COLOURS[at[name] % len(COLOURS)]
         down = [it for it in needs[name] if at[it] > at[name]]
         if down:
-            said.append(line([(x, y), (max(places[it][0] for it in down), y)], colour, 1))
+            pieces.append(line([(x, y), (max(places[it][0] for it in down), y)], colour, 1))
         citing = [it for it in order[:at[name]] if name in needs[it]]
         if citing:
-            said += [line([(x, places[citing[0]][1]), (x, y - 6)], colour, 1), arrow(x, y - 4, colour, down=1)]
+            pieces += [line([(x, places[citing[0]][1]), (x, y - 6)], colour, 1), arrow(x, y - 4, colour, down=1)]
     for name in order:
         x, y = places[name]
         for it in needs[name]:
             told = f"{labels[name]} needs {it} {needs[name][it]}"
             if at[it] > at[name]:
-                said.append(dot(places[it][0], y, INK, 3.0, told))
+                pieces.append(dot(places[it][0], y, INK, 3.0, told))
             else:
                 back, up = places[it]
-                said += [line([(x, y), (x, y + STAIR / 2), (back, y + STAIR / 2), (back, up)], ALARM, 1),
-                         arrow(back, up + 4, ALARM, down=-1), dot(back, y + STAIR / 2, ALARM, 3.0, told)]
-    return said
+                pieces += [line([(x, y), (x, y + STAIR / 2), (back, y + STAIR / 2), (back, up)], ALARM, 1),
+                           arrow(back, up + 4, ALARM, down=-1), dot(back, y + STAIR / 2, ALARM, 3.0, told)]
+    return pieces
 
 
-def draw_selection(registry, request, selected, title):
+def draw_selection(registry: Registry, request: Request, selected: Mapping[str, str], title: str) -> str:
     """The picture of a selection: the packages with who needs whom."""
     title = textwrap.shorten(title, MOST_LETTERS, placeholder=" ..")
     needs = needs_of(registry, request, selected)
@@ -191,10 +226,12 @@ def draw_selection(registry, request, selected, title):
     left = MARGIN + max(width(labels[name], 12) - STAIR * place for place, name in enumerate(order)) + 10
     head = MARGIN + 42 + 14 * len(told)
     places = {name: (left + STAIR * place, head + STAIR * place) for place, name in enumerate(order)}
-    said = [text(MARGIN, MARGIN + 12, title, SAID), *(text(MARGIN, MARGIN + 28 + 14 * at, it, WHY, FAINT) for at, it in enumerate(told))]
-    said += stairs(needs, order, places, labels)
+    pieces = [text(MARGIN, MARGIN + 12, title, SAID),
+              *(text(MARGIN, MARGIN + 28 + 14 * at, it, WHY, FAINT) for at, it in enumerate(told))]
+    pieces += stairs(needs, order, places, labels)
     for place, name in enumerate(order):
         x, y = places[name]
-        said += [dot(x, y, COLOURS[place % len(COLOURS)], 4.0), text(x - 9, y + 4, labels[name], 12, INK if name else EDGE, "end").replace("<text", HALO)]
+        label = text(x - 9, y + 4, labels[name], 12, INK if name else EDGE, "end")
+        pieces += [dot(x, y, COLOURS[place % len(COLOURS)], 4.0), label.replace("<text", HALO)]
     wide = max(left + STAIR * len(order), MARGIN + max(width(it, WHY) for it in told), MARGIN + width(title, SAID))
-    return sheet(wide + MARGIN, head + STAIR * len(order) + MARGIN, said)
+    return sheet(wide + MARGIN, head + STAIR * len(order) + MARGIN, pieces)

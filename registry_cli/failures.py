@@ -1,16 +1,24 @@
-"""Why a subcommand ends without what was asked for: the exit statuses, and exceptions whose text is the line that people read."""
+"""Why a subcommand ends without what was asked for: the exit statuses, and exceptions whose text is the line that
+people read."""
+from __future__ import annotations
+
+from . import TYPE_CHECKING
+
+if TYPE_CHECKING:
+    from collections.abc import Mapping
 
 DONE, REFUSED, USAGE, FAILED = 0, 1, 2, 3
 INTERRUPTED, NO_READER = 130, 141  # as a shell tells of a program that SIGINT or SIGPIPE ended
 
 
 class Failure(Exception):
-    """One line that says what happened and what to do; and further members of what `--json` prints of it, as the program's reply."""
+    """One line that says what happened and what to do; and further members of what `--json` prints of it, as the
+    program's reply."""
     status, kind = FAILED, "failed"
 
-    def __init__(self, message="", members=()):
+    def __init__(self, message: str = "", members: Mapping[str, object] | None = None) -> None:
         super().__init__(message)
-        self.members = dict(members)
+        self.members = dict(members or {})
 
 
 class Refused(Failure):
@@ -36,7 +44,7 @@ class InUse(Failed):
     """Another session has the journal."""
 
 
-def told(fault):
+def told(fault: OSError) -> str:
     """An operating system's error in one line, with its file."""
-    said = fault.strerror or str(fault)
-    return f"{fault.filename}: {said}" if fault.filename else said
+    reason = fault.strerror or str(fault)
+    return f"{fault.filename}: {reason}" if fault.filename else reason

@@ -1,12 +1,18 @@
 """Reads and replaces files of people: what is written stands whole under its name, or what stood there is as it was."""
+from __future__ import annotations
+
 import os
 
+from . import TYPE_CHECKING
 from .failures import Failed, told
+
+if TYPE_CHECKING:
+    from pathlib import Path
 
 MOST_BYTES = 2 ** 28  # of a file that is imported
 
 
-def read_file(path):
+def read_file(path: str) -> bytes:
     try:
         with open(path, "rb") as file:
             return file.read()
@@ -14,7 +20,7 @@ def read_file(path):
         raise Failed(told(fault)) from None
 
 
-def read_bounded(path):
+def read_bounded(path: str | Path) -> bytes:
     """The bytes of a file that has no more than MOST_BYTES: a device may have no end."""
     with open(path, "rb") as file:
         text = file.read(MOST_BYTES + 1)
@@ -23,14 +29,14 @@ def read_bounded(path):
     return text
 
 
-def read_plain(path):
+def read_plain(path: str | Path) -> bytes:
     """The same of a plain file: nothing may ever come out of a pipe."""
     if os.path.exists(path) and not os.path.isfile(path):
         raise Failed(f"{path} is no plain file")
     return read_bounded(path)
 
 
-def write_file(path, text):
+def write_file(path: str, text: str) -> None:
     """Puts a text in the place of a file. A link stays one, and the mode is as it was."""
     import tempfile
     path = os.path.realpath(path)
@@ -55,14 +61,14 @@ def write_file(path, text):
         raise Failed(f"{path} is not written: {fault.strerror or fault}") from None
 
 
-def umask():
+def umask() -> int:
     """The mode that new files are made without."""
     before = os.umask(0o077)
     os.umask(before)
     return before
 
 
-def sync_folder(folder):
+def sync_folder(folder: str) -> None:
     number = os.open(folder, os.O_RDONLY)
     try:
         os.fsync(number)

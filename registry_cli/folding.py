@@ -1,19 +1,29 @@
 """Which lines of a long derivation are shown: those nearest to its end. What they rest on besides stands folded."""
+from __future__ import annotations
+
+from . import TYPE_CHECKING
+
+if TYPE_CHECKING:
+    from collections.abc import Container
+
+    from .derivation import Derivation, Step
+
 MOST_SHOWN = 48
 
 
-def cited(step):
+def cited(step: Step) -> list[Step]:
     """The lines that a line rests on."""
     return [it for it in step.below() if it.number]
 
 
-def folded(derivation, most=MOST_SHOWN):
-    """The lines to show, in order, each with how many lines that are not shown it rests on. Some `most` are told with their reasons;
-    of what they rest on besides, the conclusion alone is shown."""
+def folded(derivation: Derivation, most: float = MOST_SHOWN) -> dict[Step, int]:
+    """The lines to show, in order, each with how many lines that are not shown it rests on. Some `most` are told with
+    their reasons; of what they rest on besides, the conclusion alone is shown."""
     lines = [it for it in derivation.steps if it.number]
     if len(lines) <= most:
         return {it: 0 for it in lines}
-    shown, waiting = {}, [derivation.last]
+    shown: dict[Step, int] = {}
+    waiting = [derivation.last]
     for step in waiting:  # it grows: the lines by their distance from the last one
         if len(shown) < most and step not in shown:
             shown[step] = 0
@@ -23,9 +33,10 @@ def folded(derivation, most=MOST_SHOWN):
     return {it: shown[it] for it in lines if it in shown}
 
 
-def hidden_below(end, shown):
+def hidden_below(end: Step, shown: Container[Step]) -> int:
     """How many lines a line rests on, directly or not, that are not among these."""
-    found, waiting = set(), [end]
+    found: set[Step] = set()
+    waiting = [end]
     while waiting:
         for it in cited(waiting.pop()):
             if it not in shown and it not in found:

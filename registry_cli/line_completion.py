@@ -1,4 +1,6 @@
 """Completion of the shell's lines: what a shell of the system offers too, and versions behind `NAME@`."""
+from __future__ import annotations
+
 import glob
 import os
 import re
@@ -12,14 +14,19 @@ VERSIONED = re.compile(r"([^@]+)@([=^~<>]*)")
 OWN = ("exit",)
 
 
-def complete(text, state):
-    """The candidate of this number for the word that is typed, none where there are no more: as readline asks for them."""
+candidates: list[str] = []  # for the word that is typed
+
+
+def complete(text: str, state: int) -> str | None:
+    """The candidate of this number for the word that is typed, none where there are no more: as readline asks for
+    them."""
+    global candidates
     if state == 0:
-        complete.offered = offered(readline.get_line_buffer()[:readline.get_begidx()], text)
-    return complete.offered[state] if state < len(complete.offered) else None
+        candidates = offered(readline.get_line_buffer()[:readline.get_begidx()], text)
+    return candidates[state] if state < len(candidates) else None
 
 
-def offered(before, current):
+def offered(before: str, current: str) -> list[str]:
     """What may stand behind a text for the beginning of a word."""
     try:
         words = shlex.split(before)
@@ -28,8 +35,10 @@ def offered(before, current):
     words = words[1:] if words[:1] == ["registry"] else words
     named = VERSIONED.match(current)
     if named:
-        return [f"{named[0]}{version} " for version in completion.published(words, named[1]) if f"{named[0]}{version}".startswith(current)]
+        versions = (f"{named[0]}{version}" for version in completion.published(words, named[1]))
+        return [f"{it} " for it in versions if it.startswith(current)]
     kind, *found = completion.complete([*words, current])
     if kind in (FILE, FOLDER):
-        return [it + ("/" if os.path.isdir(it) else " ") for it in sorted(glob.glob(glob.escape(current) + "*")) if kind == FILE or os.path.isdir(it)]
+        found = sorted(glob.glob(glob.escape(current) + "*"))
+        return [it + ("/" if os.path.isdir(it) else " ") for it in found if kind == FILE or os.path.isdir(it)]
     return [it + " " for it in [*found, *(own for own in OWN if not words and own.startswith(current))]]

@@ -1,11 +1,20 @@
 """Lock files, as docs/FORMATS.md tells of them, and what changed between two."""
+from __future__ import annotations
+
 import os
 from collections import namedtuple
 
-from .check_derivation import NAME, PAIRS, formed, passes, read_requirement, read_version
+from . import TYPE_CHECKING
+from .check_derivation import NAME, PAIRS, formed, passes, precedence, read_requirement, read_version
 from .failures import Failed
 from .files import read_file
 from .limits import MOST_LINE_BYTES, MOST_NEEDS
+
+if TYPE_CHECKING:
+    from collections.abc import Callable, Iterable, Mapping, Sequence
+
+    from .output import Output
+    from .shapes import Pairs, Reply, Request
 
 DEFAULT = "registry.lock"
 MADE = {"needs": PAIRS, "revision": int, "selected": PAIRS}  # the form of a lock file that says what it was made of
@@ -16,15 +25,21 @@ class Unread(Failed):
 
 
 class Lock(namedtuple("Lock", "selected needs revision", defaults=[None, None])):
-    """What a lock file has: versions by package and, unless it is a plain list, the needs and the revision that they were selected for."""
+    """What a lock file has: versions by package and, unless it is a plain list, the needs and the revision that they
+    were selected for."""
+    selected: dict[str, str]
+    needs: Pairs | None
+    revision: int | None
 
 
-def are_read(pairs, read):
+def are_read(pairs: object, read: Callable[[str], object]) -> bool:
     """Whether a value is pairs of a name, each name once, and a text that is read."""
-    return formed(pairs, PAIRS) and len(dict(pairs)) == len(pairs) and all(NAME.fullmatch(name) and read(it) is not None for name, it in pairs)
+    if not isinstance(pairs, list) or not formed(pairs, PAIRS):
+        return False
+    return len(dict(pairs)) == len(pairs) and all(NAME.fullmatch(name) and read(it) is not None for name, it in pairs)
 
 
-def read_lock(text, path):
+def read_lock(text: bytes, path: str) -> Lock:
     """The lock that stands in bytes of a file: a lock list, or an object that has one beside what it was made of."""
     import json
     try:
@@ -38,7 +53,7 @@ def read_lock(text, path):
     return lock._replace(selected=dict(lock.selected))
 
 
-def faulty(path, text):
+def faulty(path: str, text: bytes) -> str:
     """What is wrong with a lock file: the fault for which the program would refuse it."""
     from registryd_lines.fault import placed
     from registryd_lines.judging import lock_faults
@@ -47,22 +62,23 @@ def faulty(path, text):
     return placed(path, len(above), fault._replace(place=len(above[-1])))
 
 
-def lock_of(path):
+def lock_of(path: str) -> Lock:
     """The lock of a file."""
     if not os.path.lexists(path):
         raise Failed(f"{path}: there is no such lock file: `registry resolve NEED .. --write {path}` makes one")
     return read_lock(read_file(path), path)
 
 
-def lock_text(lock):
+def lock_text(lock: Lock) -> str:
     """The text of a lock file: a pair a line, the versions by name, so that a review sees what changed."""
     rows = sorted(lock.selected.items(), key=lambda row: row[0].encode())
     if lock.needs is None:
         return array(rows) + "\n"
-    return f'{{\n  "needs": {array(lock.needs, "  ")},\n  "revision": {lock.revision},\n  "selected": {array(rows, "  ")}\n}}\n'
+    members = f'"needs": {array(lock.needs, "  ")},\n  "revision": {lock.revision},\n  "selected": {array(rows, "  ")}'
+    return f"{{\n  {members}\n}}\n"
 
 
-def array(rows, before=""):
+def array(rows: Sequence[Sequence[str]], before: str = "") -> str:
     """An array as JSON, with an item a line behind this much space."""
     import json
     if not rows:
@@ -70,8 +86,9 @@ def array(rows, before=""):
     return "[\n" + ",\n".join(f"{before}  {json.dumps(row, ensure_ascii=False)}" for row in rows) + f"\n{before}]"
 
 
-def renewed(before, request, reply):
-    """The lock that takes the place of one, or of none. A plain list stays one, and what is made of the same needs stays as it was."""
+def renewed(before: Lock | None, request: Request, reply: Reply) -> Lock:
+    """The lock that takes the place of one, or of none. A plain list stays one, and what is made of the same needs
+    stays as it was."""
     made = Lock(dict(reply["selected"]), request["needs"], reply["revision"])
     if before is None:
         return made
@@ -80,8 +97,9 @@ def renewed(before, request, reply):
     return before if made[:2] == before[:2] else made
 
 
-def changes(old, new):
-    """A line for each package whose version two locks don't share, by name: what was added or removed, and from what to what."""
+def changes(old: Mapping[str, str], new: Mapping[str, str]) -> list[str]:
+    """A line for each package whose version two locks don't share, by name: what was added or removed, and from what to
+    what."""
     lines = []
     for name in sorted({*old, *new}):
         if name not in old:
@@ -93,24 +111,27 @@ def changes(old, new):
     return lines
 
 
-def changed(old, new):
+def changed(old: Mapping[str, str], new: Mapping[str, str]) -> list[dict[str, str | None]]:
     """The same as values: each package with its version before and behind, none where it was not or is not there."""
-    return [{"name": name, "from": old.get(name), "to": new.get(name)} for name in sorted({*old, *new}) if old.get(name) != new.get(name)]
+    return [{"name": name, "from": old.get(name), "to": new.get(name)}
+            for name in sorted({*old, *new}) if old.get(name) != new.get(name)]
 
 
-def counted(lines):
+def counted(lines: Iterable[str]) -> str:
     """How many of such lines tell of what."""
-    return ", ".join(f"{sum(line[0] == mark for line in lines)} {told}" for mark, told in (("+", "added"), ("-", "removed"), ("~", "changed")))
+    marks = [line[0] for line in lines]
+    kinds = (("+", "added"), ("-", "removed"), ("~", "changed"))
+    return ", ".join(f"{marks.count(mark)} {kind}" for mark, kind in kinds)
 
 
-def coloured(lines, out):
+def coloured(lines: Iterable[str], out: Output) -> list[str]:
     """Such lines as a terminal shows them."""
     return [out.style(line, {"+": "green", "-": "red", "~": "yellow"}[line[0]]) for line in lines]
 
 
-def remark(old, new):
+def remark(old: str, new: str) -> str:
     """What a review looks at: a step back, and a step to what `^` with the old version does not admit."""
-    one, other = read_version(old), read_version(new)
+    one, other = precedence(old), precedence(new)
     if other <= one:
         return " (older)" if other < one else " (of equal precedence)"
     return "" if passes("^", one, other) else f" (beyond ^{old})"

@@ -1,33 +1,39 @@
 """Runs one command line, and turns what may go wrong into one line on standard error and an exit status."""
+from __future__ import annotations
+
 import errno
 import importlib
 import os
 import sys
 
-from . import command_line
+from . import TYPE_CHECKING, command_line
 from .failures import DONE, FAILED, INTERRUPTED, NO_READER, USAGE, Failed, Failure, Usage, told
 from .output import Output, choose, fail
+
+if TYPE_CHECKING:
+    from typing import NoReturn
 
 FULL = (errno.ENOSPC, errno.EDQUOT, errno.EFBIG, errno.EIO)  # errors of a write
 
 
-def run(words, out):
+def run(words: list[str], out: Output) -> int:
     """Obeys a command line; answers the exit status."""
     for place, it in enumerate(words, 1):
         if any("\ud800" <= letter <= "\udfff" for letter in it):
             raise Usage(f"word {place} is not UTF-8")
     choose()
-    of, rest = command_line.split(command_line.asked_help(words))
-    if of is None:
+    found, rest = command_line.split(command_line.asked_help(words))
+    if found is None:
         return general(rest)
-    given = command_line.read(of, rest)
-    given.subcommand = of.name
+    given = command_line.read(found, rest)
+    given.subcommand = found.name
     choose(given)
-    module = importlib.import_module(f".commands.{of.module}", __package__)
-    return module.run(given, out) or DONE
+    module = importlib.import_module(f".commands.{found.module}", __package__)
+    status: int | None = module.run(given, out)
+    return status or DONE
 
 
-def general(words):
+def general(words: list[str]) -> int:
     """A command line without a subcommand. What it takes is loaded only here."""
     if words[:1] == ["--complete"]:
         from .completion import complete
@@ -50,7 +56,7 @@ def general(words):
     return DONE
 
 
-def overview(words):
+def overview(words: list[str]) -> int:
     """The help of the whole, which is what was asked for or what was missed."""
     from . import parsing
     wants_help = "--help" in words or "-h" in words
@@ -58,7 +64,7 @@ def overview(words):
     return DONE if wants_help else USAGE
 
 
-def guarded(words):
+def guarded(words: list[str]) -> int:
     """The same, with what goes wrong as one line, and as JSON where that is wanted."""
     out = Output("--json" in words)
     try:
@@ -75,7 +81,7 @@ def guarded(words):
         return failed(out, Failed("there is not enough memory"))
 
 
-def failed(out, fault):
+def failed(out: Output, fault: Failure) -> int:
     """Tells why a command line fails; answers the exit status."""
     try:
         out.fail(fault)
@@ -87,21 +93,23 @@ def failed(out, fault):
     return fault.status
 
 
-def unwritten(fault):
-    """An operating system's error in one line. That of a full standard output has no file, and nothing more goes there."""
+def unwritten(fault: OSError) -> str:
+    """An operating system's error in one line. That of a full standard output has no file, and nothing more goes
+    there."""
     if fault.errno in FULL and not fault.filename:  # whoever writes a file names it
         fault.filename = "standard output"
         write_no_more()
     return told(fault)
 
 
-def write_no_more():
+def write_no_more() -> None:
     """Lets nothing more go to standard output, also what is left of it as the interpreter ends."""
     os.dup2(os.open(os.devnull, os.O_WRONLY), sys.stdout.fileno())
 
 
-def main(words):
-    """The exit status of a command line. Its reader may have enough before the end, and a key may interrupt it: neither is a fault."""
+def main(words: list[str]) -> int:
+    """The exit status of a command line. Its reader may have enough before the end, and a key may interrupt it: neither
+    is a fault."""
     open_streams()
     try:
         return guarded(words)
@@ -111,10 +119,15 @@ def main(words):
     except KeyboardInterrupt:
         return INTERRUPTED
     except SystemExit as ended:  # argparse, when it has shown its help, and a signal that ends
-        return ended.code or DONE
+        return status_of(ended)
 
 
-def open_streams():
+def status_of(ended: SystemExit) -> int:
+    """The exit status of what has ended the command."""
+    return ended.code if isinstance(ended.code, int) else DONE
+
+
+def open_streams() -> None:
     """Opens what of the standard streams was closed, so that no other file gets its number."""
     for number in range(3):
         try:
@@ -124,13 +137,13 @@ def open_streams():
     for name in ("stdout", "stderr"):
         if getattr(sys, name) is None:
             setattr(sys, name, open(os.devnull, "w", encoding="utf-8"))
-    sys.stdout.reconfigure(errors="replace")
+    sys.stdout.reconfigure(errors="replace")  # type: ignore[attr-defined]  # it is a stream of a file
 
 
 class EndedBySignal(SystemExit):
     """A signal ends the command, and a shell that it stands in too."""
 
 
-def end_by_signal(number, _):
+def end_by_signal(number: int, _: object) -> NoReturn:
     """Ends by a signal as by an exception: so what was begun is left in order, and no program goes on alone."""
     raise EndedBySignal(128 + number)

@@ -1,7 +1,13 @@
 """How near a journal is to what a session takes: told from nine tenths of a limit on."""
+from __future__ import annotations
+
 from collections import Counter
 
+from . import TYPE_CHECKING
 from .limits import MOST_COMMANDS, MOST_PACKAGES, MOST_VERSIONS
+
+if TYPE_CHECKING:
+    from collections.abc import Iterable, Iterator
 
 SHORTEST = 100_000  # bytes: no journal that is shorter is near a limit, so most are not looked at
 NAMING = 10  # bytes that a journal has at least for each name: `["a","*"],`
@@ -10,7 +16,7 @@ LEARNT = b'"op":"learn"}\n'
 REMEDY = "`registry journal renew` begins a smaller journal"
 
 
-def warnings(path, text):
+def warnings(path: str, text: bytes) -> Iterator[str]:
     """A sentence for each limit of which a journal's text takes nine tenths."""
     if len(text) < SHORTEST:
         return
@@ -20,7 +26,8 @@ def warnings(path, text):
     if is_near(commands, MOST_COMMANDS):
         yield f"{path} has {commands:,} of {MOST_COMMANDS:,} commands: {REMEDY}"
     is_wide = is_near(len(text) // NAMING, MOST_PACKAGES)  # else no names are looked at
-    published, needed = Counter(), set()
+    published: Counter[bytes] = Counter()
+    needed: set[bytes] = set()
     if is_wide or is_near(commands, MOST_VERSIONS):
         from .catalog import pieces
         for it in pieces(text):
@@ -34,11 +41,11 @@ def warnings(path, text):
             yield f"{path} has {count:,} of {MOST_VERSIONS:,} versions of {name.decode()}: {REMEDY}"
 
 
-def is_near(used, most):
+def is_near(used: int, most: int) -> bool:
     return used * 10 >= most * 9
 
 
-def warn(path, text=None):
+def warn(path: str, text: bytes | None = None) -> None:
     """Tells the warnings of a journal on standard error; of the file as it stands where no text is given."""
     if text is None:
         try:
@@ -49,7 +56,7 @@ def warn(path, text=None):
     tell(warnings(path, text))
 
 
-def tell(warned):
+def tell(warned: Iterable[str]) -> None:
     """Tells warnings on standard error."""
     from .output import Output
     for it in warned:

@@ -1,46 +1,65 @@
-"""Where answers go: lines for people, wrapped and in colour on a terminal, or JSON where `--json` asks for it; and standard error."""
+"""Where answers go: lines for people, wrapped and in colour on a terminal, or JSON where `--json` asks for it; and
+standard error."""
+from __future__ import annotations
+
 import os
 import sys
 import time
 from collections import namedtuple
 
+from . import TYPE_CHECKING
+
+if TYPE_CHECKING:
+    from collections.abc import Iterable
+    from typing import TextIO
+
+    from .failures import Failure
+    from .shapes import Given
+
 STYLES = {"bold": "1", "faint": "2", "red": "31", "green": "32", "yellow": "33"}
-MARK = os.urandom(8).hex()  # stands for the beginning of a colour's code until a line is printed: no text has it by chance
+# stands for the beginning of a colour's code until a line is printed: no text has it by chance
+MARK = os.urandom(8).hex()
 STYLED = f"{MARK}[0-9;]+m"
 INDENT = r" *(?:registry: |\([0-9]+\) +)?"  # further rows of a line are indented as far as this
 NARROWEST = 20  # columns that wrapped text has
 
 
 class Choice(namedtuple("Choice", "color is_quiet is_verbose seconds begun", defaults=["", False, False, 0, 0])):
-    """What the options of a command line say of all that it prints and asks: of `seconds` that a search with its explanation may take, 0
-    is any time, and `begun` is when the command line was read."""
+    """What the options of a command line say of all that it prints and asks: of `seconds` that a search with its
+    explanation may take, 0 is any time, and `begun` is when the command line was read."""
+    color: str
+    is_quiet: bool
+    is_verbose: bool
+    seconds: int
+    begun: float
 
 
 usual = chosen = Choice()  # of the shell that obeys a command line, and of that line
 
 
-def choose(given=None):
+def choose(given: Given | None = None) -> None:
     """Obeys these options, and where they say nothing those of the shell."""
     global chosen
     chosen = Choice(given.color or usual.color, given.quiet or usual.is_quiet, given.verbose or usual.is_verbose,
                     getattr(given, "limit", 0), time.monotonic()) if given else usual
 
 
-def keep_choice(kept):
+def keep_choice(kept: Choice) -> Choice:
     """Has the command lines of a shell begin with these options; answers those of before."""
     global usual, chosen
     before, usual, chosen = usual, kept, kept
     return before
 
 
-def is_coloured(stream):
-    """Whether colour may go there: as --color says, else only to a terminal that knows it, and not against https://no-color.org."""
+def is_coloured(stream: TextIO | None) -> bool:
+    """Whether colour may go there: as --color says, else only to a terminal that knows it, and not against
+    https://no-color.org."""
     if stream is None or chosen.color in ("always", "never"):
         return stream is not None and chosen.color == "always"
     return stream.isatty() and not os.environ.get("NO_COLOR") and os.environ.get("TERM") != "dumb"
 
 
-def size(stream):
+def size(stream: TextIO) -> tuple[int, int]:
     """The columns and lines of a terminal; 0 of what is none, or does not say."""
     try:
         return os.get_terminal_size(stream.fileno()) if stream.isatty() else (0, 0)
@@ -48,22 +67,22 @@ def size(stream):
         return 0, 0
 
 
-def visible(text):
+def visible(text: str) -> str:
     """A text with nothing in it that a terminal obeys or nobody sees: such characters are told by their numbers."""
     return text if text.isprintable() else "".join(it if it.isprintable() else numbered(ord(it)) for it in text)
 
 
-def numbered(code):
+def numbered(code: int) -> str:
     return f"\\x{code:02x}" if code < 0x100 else f"\\u{code:04x}" if code < 0x10000 else f"\\U{code:08x}"
 
 
-def wrapped(line, columns):
+def wrapped(line: str, columns: int) -> str:
     """A line broken between words into rows of so many columns."""
     if not columns:
         return line
     import re
     plain = re.sub(STYLED, "", line)
-    indent = len(re.match(INDENT, plain)[0])
+    indent = re.match(INDENT, plain).end()  # type: ignore[union-attr]  # it matches any text
     if len(plain) <= columns or columns - indent < NARROWEST:
         return line
     parts, at = [], 0
@@ -77,35 +96,35 @@ def wrapped(line, columns):
     return "".join(parts)
 
 
-def style(text, stream, *styles):
+def style(text: str, stream: TextIO | None, *styles: str) -> str:
     """A text in some of the STYLES, plain where there is no colour."""
     return f"{MARK}{';'.join(STYLES[it] for it in styles)}m{text}{MARK}0m" if text and is_coloured(stream) else text
 
 
-def write(stream, lines):
+def write(stream: TextIO, lines: Iterable[str]) -> None:
     columns, _ = size(stream)
     for it in lines:
         print(wrapped(visible(it), columns).replace(MARK, "\x1b["), file=stream, flush=stream is sys.stderr)
 
 
-def say(*lines):
+def say(*lines: str) -> None:
     """Lines on standard error."""
     write(sys.stderr, lines)
 
 
-def aside(*lines):
+def aside(*lines: str) -> None:
     """Lines on standard error beside an answer, where --quiet does not leave them out."""
     if not chosen.is_quiet:
         sys.stdout.flush()
         say(*lines)
 
 
-def fail(text):
+def fail(text: str) -> None:
     """One line on standard error: why what was asked for is not done."""
     say(f"{style('registry:', sys.stderr, 'bold', 'red')} {text}")
 
 
-def detail(text):
+def detail(text: str) -> None:
     """One line on standard error, where --verbose asks for it: what is done."""
     if chosen.is_verbose:
         Output.note(text)
@@ -114,10 +133,10 @@ def detail(text):
 class Output:
     """Standard output and standard error of one subcommand."""
 
-    def __init__(self, is_json=False):
+    def __init__(self, is_json: bool = False) -> None:
         self.is_json, self.has_answered = is_json, False
 
-    def give(self, value, lines):
+    def give(self, value: object, lines: Iterable[str]) -> None:
         """An answer: the value as one line of JSON where that is wanted, else these lines."""
         if self.is_json:
             from registryd_lines.fault import as_json
@@ -126,25 +145,27 @@ class Output:
         else:
             write(sys.stdout, lines)
 
-    def style(self, text, *styles):
+    def style(self, text: str, *styles: str) -> str:
         """A text for standard output in some of the STYLES."""
         return text if self.is_json else style(text, sys.stdout, *styles)
 
-    def fail(self, fault):
-        """Why there is no answer, or no more than was given: on standard error and, in place of an answer in JSON, on standard output."""
+    def fail(self, fault: Failure) -> None:
+        """Why there is no answer, or no more than was given: on standard error and, in place of an answer in JSON, on
+        standard output."""
         sys.stdout.flush()
-        fail(fault)
+        fail(str(fault))
         if self.is_json and not self.has_answered:
-            self.give({"error": fault.kind, "message": str(fault), **fault.members}, [])
+            value: dict[str, object] = {"error": fault.kind, "message": str(fault), **fault.members}
+            self.give(value, [])
             sys.stdout.flush()
 
     @staticmethod
-    def note(text):
+    def note(text: str) -> None:
         """One such line: what is worth knowing, and no answer."""
         aside(f"{style('registry:', sys.stderr, 'bold')} {text}")
 
     @staticmethod
-    def ask(question):
+    def ask(question: str) -> bool | None:
         """Whether a person at a terminal says yes; none where nobody can be asked."""
         if not (sys.stdin and sys.stdin.isatty() and sys.stderr and sys.stderr.isatty()):
             return None

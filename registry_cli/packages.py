@@ -1,23 +1,33 @@
 """The registry in Python that refusals are told of, by the rules carried out once more, from a journal's commands."""
+from __future__ import annotations
+
 from itertools import chain
 
+from . import TYPE_CHECKING
 from .check_derivation import Registry, demand
 from .failures import Failed
 
+if TYPE_CHECKING:
+    from collections.abc import Iterable, Sequence
 
-def registry_of(commands, names):
+    from .catalog import Catalog
+    from .shapes import Request, Row
+
+
+def registry_of(commands: Sequence[Request], names: Iterable[str]) -> Registry:
     """The registry after these commands, with the releases of these packages alone: no others are asked for."""
-    mentioned = (it for command in commands for it in [command["name"], *(target for target, _ in command.get("needs", []))])
+    mentioned = (it for command in commands
+                 for it in [command["name"], *(target for target, _ in command.get("needs", []))])
     wanted = set(names)
     return filled(mentioned, (it for it in commands if it["name"] in wanted), len(commands))
 
 
-def registry_in(catalog, names):
+def registry_in(catalog: Catalog, names: Iterable[str]) -> Registry:
     """The same of what a journal has. No commands but those of these packages are read."""
     return filled(catalog.mentioned, chain.from_iterable(map(catalog.commands, set(names))), catalog.revision)
 
 
-def filled(mentioned, commands, revision):
+def filled(mentioned: Iterable[str], commands: Iterable[Request], revision: int) -> Registry:
     """A registry that knows packages in this order, and has obeyed some commands of those that lead to a revision."""
     registry = Registry()
     for it in mentioned:
@@ -29,7 +39,8 @@ def filled(mentioned, commands, revision):
     return registry
 
 
-def named(request, rows):
+def named(request: Request, rows: Iterable[Row]) -> set[str]:
     """The packages that a request and a derivation name."""
     causes = [cause for row in rows for cause in row["causes"]]
-    return {*dict(request["needs"]), *dict(request.get("lock", [])), *(cause[it] for cause in causes for it in ("name", "target") if it in cause)}
+    of_causes = {name for cause in causes for name in (cause.get("name"), cause.get("target")) if name is not None}
+    return {*dict(request["needs"]), *dict(request.get("lock", [])), *of_causes}

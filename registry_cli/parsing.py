@@ -1,4 +1,7 @@
-"""Reads the words of a command line by the parser of the standard library, which tells what is wrong with them, and has the help."""
+"""Reads the words of a command line by the parser of the standard library, which tells what is wrong with them, and has
+the help."""
+from __future__ import annotations
+
 import argparse
 import os
 import sys
@@ -7,21 +10,30 @@ from functools import partial
 
 from registryd_lines.nearest import nearest
 
+from . import TYPE_CHECKING
+
 from .command_line import flags, number
 from .failures import Usage
 from .table import COMMON, SUBCOMMANDS
 
+if TYPE_CHECKING:
+    from collections.abc import Callable, Sequence
+    from typing import Any, NoReturn
+
+    from .table import Subcommand, Word
+
 WIDE = 78  # of sentences in the help
 UNKNOWN = 80  # columns of what is no terminal
 # options that have other names elsewhere; what is needed is a word here
-OPTIONS_ELSEWHERE = {"frozen": "locked", "frozen-lockfile": "locked", "immutable": "locked", "timeout": "seconds", "output": "write", "lockfile": "lock"}
+OPTIONS_ELSEWHERE = {"frozen": "locked", "frozen-lockfile": "locked", "immutable": "locked", "timeout": "seconds",
+                     "output": "write", "lockfile": "lock"}
 WORDS_ELSEWHERE = ("need", "needs", "dep", "deps", "dependency", "dependencies", "package", "packages")
 
 
 class Parser(argparse.ArgumentParser):
     """A parser whose faults are exceptions, in one line."""
 
-    def error(self, message):
+    def error(self, message: str) -> NoReturn:
         option = message.partition("--")[2].partition(" ")[0].partition("=")[0].rstrip(":")
         known = self._option_string_actions
         meant = "--" + (OPTIONS_ELSEWHERE.get(option) or nearest(option, [it[2:] for it in known]) or "")
@@ -36,51 +48,52 @@ class Parser(argparse.ArgumentParser):
         raise Usage(f"{message}{hint} `{self.prog} --help`")
 
 
-def layout():
+def layout() -> partial[argparse.RawDescriptionHelpFormatter]:
     """How a parser lays out its help. It is told the width, since it would load what packs archives to learn that."""
     try:
-        columns = int(os.environ.get("COLUMNS", 0)) or os.get_terminal_size(sys.__stdout__.fileno()).columns
+        terminal = sys.__stdout__.fileno()  # an AttributeError where there is none
+        columns = int(os.environ.get("COLUMNS", 0)) or os.get_terminal_size(terminal).columns
     except (AttributeError, ValueError, OSError):
         columns = 0
     return partial(argparse.RawDescriptionHelpFormatter, width=(columns or UNKNOWN) - 2)
 
 
-def reader(of):
+def reader(subcommand: Subcommand) -> Parser:
     """The parser of a subcommand's words."""
-    about = "\n\n".join(textwrap.fill(it, WIDE) for it in (of.summary + ".", of.more) if it)
-    parser = Parser(prog=f"registry {of.name}", description=about, epilog=shown(of.examples),
+    about = "\n\n".join(textwrap.fill(it, WIDE) for it in (subcommand.summary + ".", subcommand.more) if it)
+    parser = Parser(prog=f"registry {subcommand.name}", description=about, epilog=shown(subcommand.examples),
                     formatter_class=layout(), allow_abbrev=False)
-    for it in (*of.words, *COMMON):
+    for it in (*subcommand.words, *COMMON):
         add(parser, it)
     return parser
 
 
-def shown(examples):
+def shown(examples: Sequence[str]) -> str:
     return "\n".join(["examples:" if len(examples) > 1 else "example:", *("  " + it for it in examples)])
 
 
-def add(parser, of):
+def add(parser: Parser, word: Word) -> None:
     """One word or option."""
-    told = {"help": of.about.replace("%", "%%")}
-    if of.flag:
-        told["dest"] = of.member
-    if of.flag and not of.names:
-        parser.add_argument(*flags(of), action="store_true", **told)
+    settings: dict[str, Any] = {"help": word.about.replace("%", "%%")}  # of which each has a type of its own
+    if word.flag:
+        settings["dest"] = word.member
+    if word.flag and not word.names:
+        parser.add_argument(*flags(word), action="store_true", **settings)
         return
-    if isinstance(of.takes, tuple):
-        told["choices"] = of.takes
-    if isinstance(of.takes, range):
-        told["type"] = number_in(of.takes)
-    if of.many or len(of.names) > 1:
-        told["nargs"] = of.many or len(of.names)
-    if of.default is not None or of.many == "*" and not of.flag:
-        told["default"] = of.default  # said where there is none, so that the word isn't told as missing
-    told["metavar"] = of.names if len(of.names) > 1 else of.names[0]
-    parser.add_argument(*([of.flag] if of.flag else [of.member]), **told)
+    if isinstance(word.takes, tuple):
+        settings["choices"] = word.takes
+    if isinstance(word.takes, range):
+        settings["type"] = number_in(word.takes)
+    if word.many or len(word.names) > 1:
+        settings["nargs"] = word.many or len(word.names)
+    if word.default is not None or word.many == "*" and not word.flag:
+        settings["default"] = word.default  # said where there is none, so that the word isn't told as missing
+    settings["metavar"] = word.names if len(word.names) > 1 else word.names[0]
+    parser.add_argument(word.flag or word.member, **settings)
 
 
-def number_in(numbers):
-    def read(text):
+def number_in(numbers: range) -> Callable[[str], int]:
+    def read(text: str) -> int:
         try:
             return number(text, numbers)
         except ValueError:
@@ -88,13 +101,14 @@ def number_in(numbers):
     return read
 
 
-def overview():
+def overview() -> str:
     """The help of the whole."""
     wide = max(len(it.name) for it in SUBCOMMANDS)
     parser = Parser(prog="registry", usage="registry SUBCOMMAND ..", add_help=False, formatter_class=layout(),
                     description="A package registry with a version solver, over one file.\n\nsubcommands:\n"
                     + "\n".join(f"  {it.name.ljust(wide)}  {it.summary}" for it in SUBCOMMANDS),
-                    epilog=shown(("registry publish log 1.3.0", "registry publish app 1.0.0 log@^1.2", "registry resolve app"))
+                    epilog=shown(("registry publish log 1.3.0", "registry publish app 1.0.0 log@^1.2",
+                                  "registry resolve app"))
                     + "\n\n`registry help SUBCOMMAND` shows its arguments, options and examples.")
     for it in COMMON:
         add(parser, it)

@@ -9,11 +9,12 @@ VARIABLE = "REGISTRY_PROGRAM"
 TOP = os.path.dirname(os.path.dirname(os.path.abspath(__file__)))
 
 
-def program():
-    """The words that start the program: what the environment names, else the one beside this command, else that of the path."""
+def program() -> list[str]:
+    """The words that start the program: what the environment names, else the one beside this command, else that of the
+    path."""
     named = os.environ.get(VARIABLE)
     beside = os.path.join(TOP, "registryd")
-    found = named or (os.path.isfile(beside) and beside)
+    found = named or (beside if os.path.isfile(beside) else None)
     if not found:
         import shutil
         found = shutil.which("registryd")
@@ -22,7 +23,7 @@ def program():
     return [found]
 
 
-def version():
+def version() -> str:
     """What the program says of its version."""
     done = tied.run([*program(), "--version"], stdout=subprocess.PIPE, stderr=subprocess.PIPE)
     if done.returncode:

@@ -1,11 +1,24 @@
-"""What of a registry is kept where its journal begins anew: what lock files select, the newest versions of each package, and what
-those need. What these need is asked of the program: so whatever is kept can be selected as before, alone and by its lock file."""
-import json
-from typing import NamedTuple
+"""What of a registry is kept where its journal begins anew: what lock files select, the newest versions of each
+package, and what those need. What these need is asked of the program: so whatever is kept can be selected as before,
+alone and by its lock file."""
+from __future__ import annotations
 
-from .check_derivation import read_version
+import json
+from typing import TYPE_CHECKING, NamedTuple
+
+from .check_derivation import precedence
 from .limits import MOST_NEEDS, MOST_REQUIREMENT_BYTES
 from .needs import needs_known
+
+if TYPE_CHECKING:
+    from collections.abc import Collection, Iterable, Iterator, Mapping
+
+    from .bar import Bar
+    from .check_derivation import Version
+    from .shapes import Asking, Pairs, Reply, Request
+
+    Key = tuple[str, Version]
+    Releases = Mapping[Key, "Release"]
 
 BUDGET = 10_000  # conflicts of one request
 
@@ -13,25 +26,25 @@ BUDGET = 10_000  # conflicts of one request
 class Release(NamedTuple):
     name: str
     text: str
-    needs: list  # pairs of a name and a requirement
+    needs: Pairs  # of a name and a requirement
     is_yanked: bool
 
     @property
-    def key(self):
-        return self.name, read_version(self.text)
+    def key(self) -> Key:
+        return self.name, precedence(self.text)
 
     @property
-    def need(self):
+    def need(self) -> list[str] | None:
         """The need that this version alone meets; none where it would be too long for a requirement."""
         exactly = "=" + self.text.partition("+")[0]
         return [self.name, exactly] if len(exactly) <= MOST_REQUIREMENT_BYTES else None
 
 
-def releases_of(commands):
+def releases_of(commands: Iterable[Request]) -> dict[Key, Release]:
     """The releases by their keys, in order of publication."""
-    found = {}
+    found: dict[Key, Release] = {}
     for it in commands:
-        key = it["name"], read_version(it["version"])
+        key = it["name"], precedence(it["version"])
         if it["op"] == "publish":
             found[key] = Release(it["name"], it["version"], it["needs"], False)
         else:
@@ -39,57 +52,62 @@ def releases_of(commands):
     return found
 
 
-def newest(releases, most):
+def newest(releases: Releases, most: int) -> set[Key]:
     """The keys of so many of the highest versions of each package that are not yanked."""
-    by_name = {}
+    by_name: dict[str, list[Version]] = {}
     for (name, version), it in releases.items():
         if not it.is_yanked:
             by_name.setdefault(name, []).append(version)
     return {(name, version) for name, versions in by_name.items() for version in sorted(versions, reverse=True)[:most]}
 
 
-def selected(reply):
+def selected(reply: Reply) -> set[Key]:
     """The keys of a selection; none where there is no selection."""
-    return {(name, read_version(text)) for name, text in reply.get("selected", [])}
+    return {(name, precedence(text)) for name, text in reply.get("selected", [])}
 
 
 class Lock:
     """A lock file, and the requests by which it is selected as it is."""
 
-    def __init__(self, path, versions, releases):
+    def __init__(self, path: str, versions: Mapping[str, str], releases: Releases) -> None:
         self.path = path
-        self.keys = {(name, read_version(text)) for name, text in versions.items()}
+        self.keys = {(name, precedence(text)) for name, text in versions.items()}
         held = {it.name: it for key, it in releases.items() if key in self.keys}
         self.missing = sorted(name for name in versions if name not in held)
-        lock = sorted(map(list, versions.items()))
+        lock = sorted([name, text] for name, text in versions.items())
         needs = [it for it in (held[name].need for name in roots(held)) if it]
         asked = [needs[at:at + MOST_NEEDS] for at in range(0, len(needs), MOST_NEEDS)]
         known = needs_known((), path)
         if known is not None:
             asked.append(known)
         self.requests = [request(it, lock) for it in asked]
-        self.replies = []
+        self.replies: list[Reply] = []
 
-    def ask(self, session):
+    def ask(self, session: Asking) -> list[Reply]:
         """The answers to its requests, without the revision."""
-        return [{name: it for name, it in reply.items() if name != "revision"} for reply in session.ask(*self.requests)]
+        replies = [it.copy() for it in session.ask(*self.requests)]
+        for it in replies:
+            it.pop("revision", 0)
+        return replies
 
-    def remember(self, session):
+    def remember(self, session: Asking) -> set[Key]:
         """Notes what is answered, and answers the keys that have to be kept so that it is answered again."""
         self.replies = self.ask(session)
         return self.keys.union(*map(selected, self.replies))
 
     @property
-    def is_selected(self):
+    def is_selected(self) -> bool:
         """Whether just its own versions are selected."""
         chosen = set().union(*map(selected, self.replies))
         return all("selected" in it for it in self.replies) and chosen == self.keys
 
 
-def roots(held):
-    """Names from which all of these releases are reached along their needs: those that no other one needs, then of each circle one."""
+def roots(held: Mapping[str, Release]) -> list[str]:
+    """Names from which all of these releases are reached along their needs: those that no other one needs, then of each
+    circle one."""
     needed = {target for it in held.values() for target, _ in it.needs if target != it.name}
-    found, reached = [], set()
+    found: list[str] = []
+    reached: set[str] = set()
     for name in [*sorted(set(held) - needed), *sorted(held)]:
         if name not in reached:
             found.append(name)
@@ -102,13 +120,13 @@ def roots(held):
     return found
 
 
-def request(needs, lock=()):
+def request(needs: Pairs, lock: Iterable[list[str]] = ()) -> Request:
     return {"op": "resolve", "needs": needs, "lock": list(lock), "budget": BUDGET}
 
 
-def needed(session, releases, kept, bar):
+def needed(session: Asking, releases: Releases, kept: Collection[Key], bar: Bar) -> set[Key]:
     """The keys of what releases need that are kept: of each the selection that it has alone."""
-    found = set()
+    found: set[Key] = set()
     # what others need was published before them, mostly: then it is in their selections
     for key in reversed([it for it in releases if it in kept]):
         bar.step()
@@ -119,7 +137,7 @@ def needed(session, releases, kept, bar):
     return found
 
 
-def commands_of(releases, kept):
+def commands_of(releases: Releases, kept: Collection[Key]) -> Iterator[Request]:
     """The commands that publish what is kept, in the order of before, and yank what was yanked."""
     for key, it in releases.items():
         if key in kept:
@@ -128,6 +146,6 @@ def commands_of(releases, kept):
                 yield {"op": "yank", "name": it.name, "version": it.text}
 
 
-def line_of(command):
+def line_of(command: Request) -> bytes:
     """The line of a command in a journal's file."""
     return json.dumps(command, sort_keys=True, separators=(",", ":")).encode()

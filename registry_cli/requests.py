@@ -1,29 +1,41 @@
 """Requests to select versions, and what is told of their answers."""
+from __future__ import annotations
+
 import sys
 
+from . import TYPE_CHECKING
 from .check_derivation import read_version
 from .failures import REFUSED
 from .locks import lock_of
 from .needs import needs_given
 
+if TYPE_CHECKING:
+    from collections.abc import Iterator, Mapping, Sequence
 
-def request_of(given, lock=None):
-    """The resolve line of some words: the needs that are typed or kept, and the lock file that is named, or this lock."""
+    from .output import Output
+    from .shapes import Asking, Given, Listed, Pairs, Reading, Reply, Request
+
+
+def request_of(given: Given, lock: Mapping[str, str] | None = None) -> Request:
+    """The resolve line of some words: the needs that are typed or kept, and the lock file that is named, or this
+    lock."""
     if lock is None:
         lock = lock_of(given.lock).selected if given.lock else {}
-    request = {"op": "resolve", "needs": needs_given(given), "lock": [list(it) for it in sorted(lock.items())], "explain": True}
-    if getattr(given, "budget", None) is not None:
-        request["budget"] = given.budget
+    kept = [list(it) for it in sorted(lock.items())]
+    request: Request = {"op": "resolve", "needs": needs_given(given), "lock": kept, "explain": True}
+    budget: int | None = getattr(given, "budget", None)
+    if budget is not None:
+        request["budget"] = budget
     return request
 
 
-def answered(session, request):
+def answered(session: Asking, request: Request) -> Reply:
     """The reply to a request: a selection, or that there is none. A refusal by number is told."""
     from .refusals import accepted  # while the program loads the journal
     return accepted(session, request, *session.ask(request))
 
 
-def refused(session, request, reply, out):
+def refused(session: Reading, request: Request, reply: Reply, out: Output) -> int:
     """Tells why no selection meets a request, and answers the exit status."""
     from .cases import Case
     from .catalog import catalog_of
@@ -33,13 +45,14 @@ def refused(session, request, reply, out):
     out.give(reply, [])
     with explaining(is_refused=True):
         catalog = catalog_of(session.journal())
-        case = Case(request, reply, lambda named: registry_in(catalog, named), lambda it: session.ask(it)[0], set(catalog.lines))
+        case = Case(request, reply, lambda named: registry_in(catalog, named), lambda it: session.ask(it)[0],
+                    set(catalog.lines))
         lines = case.answer()
     tell(case, lines, sys.stderr, False, "`registry why` tells all of them")
     return REFUSED
 
 
-def lock_notes(path, lock, packages):
+def lock_notes(path: str, lock: Mapping[str, str], packages: Mapping[str, Sequence[Listed]]) -> Iterator[str]:
     """What is worth knowing of a lock file's entries: those that are yanked, and those that are not published."""
     for name, text in sorted(lock.items()):
         found = [yanked for other, yanked in packages.get(name, []) if read_version(other) == read_version(text)]
@@ -49,7 +62,7 @@ def lock_notes(path, lock, packages):
             yield f"{path} names {name} {text}, which is yanked"
 
 
-def needs_of(session, selected):
+def needs_of(session: Reading, selected: Mapping[str, str]) -> dict[str, Pairs]:
     """What each selected version needs, as pairs, by package."""
     from .catalog import catalog_of
     catalog = catalog_of(session.journal())

@@ -1,12 +1,25 @@
-"""What is done while the program is asked, and while its answer is explained: a terminal is told how long it takes, and what takes too
-long is ended."""
+"""What is done while the program is asked, and while its answer is explained: a terminal is told how long it takes, and
+what takes too long is ended."""
+from __future__ import annotations
+
 import contextlib
 import signal
 import threading
 import time
 
-from . import bar, output
+from . import TYPE_CHECKING, bar, output
 from .failures import Failed, Unanswered
+
+if TYPE_CHECKING:
+    from collections.abc import Iterator, Sequence
+    from typing import Protocol
+
+    from .shapes import Request
+
+    class Searching(Protocol):
+        """What can end its search."""
+
+        def end_search(self) -> None: ...
 
 MOST_TOLD = 200  # letters of a request
 LEAST = 3  # seconds that an explanation has, however long the search took
@@ -15,48 +28,51 @@ LEAST = 3  # seconds that an explanation has, however long the search took
 class Limit:
     """Ends a search of a session after some seconds, if it has no answer by then; never where these are 0."""
 
-    def __init__(self, session, seconds):
+    def __init__(self, session: Searching, seconds: int) -> None:
         self.session, self.seconds, self.lock = session, seconds, threading.Lock()
         self.is_answered = self.is_over = False
         self.timer = threading.Timer(seconds, self.end) if seconds else None
 
-    def end(self):
+    def end(self) -> None:
         with self.lock:
             if not self.is_answered:
                 self.is_over = True
                 self.session.end_search()
 
-    def __enter__(self):
+    def __enter__(self) -> None:
         if self.timer:
             self.timer.daemon = True
             self.timer.start()
 
-    def __exit__(self, kind, *_):
+    def __exit__(self, kind: type[BaseException] | None, *_: object) -> None:
         if self.timer:
             self.timer.cancel()
         with self.lock:
             self.is_answered = True
         if self.is_over and (kind is None or issubclass(kind, Failed)):
-            raise Unanswered(f"no answer was found in {counted(self.seconds)}: --seconds N searches longer (0: without a limit)") from None
+            how = "--seconds N searches longer (0: without a limit)"
+            raise Unanswered(f"no answer was found in {counted(self.seconds)}: {how}") from None
 
 
 class Alarm:
-    """Ends by an exception what the main thread does, if that is not done after some seconds; never where these are 0."""
+    """Ends by an exception what the main thread does, if that is not done after some seconds; never where these are
+    0."""
 
-    def __init__(self, seconds, told):
+    def __init__(self, seconds: float, told: str) -> None:
         self.seconds, self.told, self.is_set = seconds, told, False
 
-    def ring(self, *_):
+    def ring(self, *_: object) -> None:
         if self.is_set:
             self.is_set = False
             raise Unanswered(self.told)
 
-    def __enter__(self):
+    def __enter__(self) -> None:
         if self.seconds:
             self.is_set = True
-            self.before = signal.signal(signal.SIGALRM, self.ring), signal.setitimer(signal.ITIMER_REAL, self.seconds)
+            handler = signal.signal(signal.SIGALRM, self.ring)
+            self.before = handler, signal.setitimer(signal.ITIMER_REAL, self.seconds)
 
-    def __exit__(self, *_):
+    def __exit__(self, *_: object) -> None:
         self.is_set = False
         if self.seconds:
             handler, timer = self.before
@@ -64,12 +80,12 @@ class Alarm:
             signal.signal(signal.SIGALRM, handler)
 
 
-def counted(seconds):
+def counted(seconds: int) -> str:
     return f"{seconds} second{'s' * (seconds != 1)}"
 
 
 @contextlib.contextmanager
-def asking(session, requests):
+def asking(session: Searching, requests: Sequence[Request]) -> Iterator[None]:
     """Meanwhile a session is asked."""
     begun, is_search = time.monotonic(), all(it.get("op") == "resolve" for it in requests)
     seconds = output.chosen.seconds if is_search else 0
@@ -83,10 +99,12 @@ def asking(session, requests):
 
 
 @contextlib.contextmanager
-def explaining(is_refused, begun=None):
-    """Meanwhile an answer is explained. It may take what is left of the seconds that have begun then, else with the command."""
+def explaining(is_refused: bool, begun: float | None = None) -> Iterator[None]:
+    """Meanwhile an answer is explained. It may take what is left of the seconds that have begun then, else with the
+    command."""
     seconds = output.chosen.seconds
     left = seconds and max(LEAST, seconds - (time.monotonic() - (begun or output.chosen.begun)))
     told = "there is no selection; to say why takes" if is_refused else "to explain that takes"
-    with bar.timed("explaining", round(left)), Alarm(left, f"{told} more than {counted(seconds)} in all: --seconds N allows more (0: without a limit)"):
+    told += f" more than {counted(seconds)} in all: --seconds N allows more (0: without a limit)"
+    with bar.timed("explaining", round(left)), Alarm(left, told):
         yield

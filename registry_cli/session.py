@@ -1,5 +1,8 @@
-"""Asks the program. A session that reads takes a journal as it stands at one moment, also while another one writes it, and needs
-neither its lock nor the right to write; one that writes holds the lock, and what it is told as accepted stands in the file."""
+"""Asks the program. A session that reads takes a journal as it stands at one moment, also while another one writes it,
+and needs neither its lock nor the right to write; one that writes holds the lock, and what it is told as accepted
+stands in the file."""
+from __future__ import annotations
+
 import contextlib
 import os
 import subprocess
@@ -7,23 +10,42 @@ import sys
 import threading
 import time
 
-from . import bar, near_limits, tied
+from . import TYPE_CHECKING, bar, near_limits, tied
 from .failures import Failed, InUse, Refused, Usage, told
 from .program import program
 from .searching import asking
+
+if TYPE_CHECKING:
+    from collections.abc import Collection, Iterator, Sequence
+    from typing import IO, Protocol, TypeVar
+
+    from . import shapes, shell
+    from .connected import Connected
+    from .shapes import Given, Reply, Request
+
+    class HasText(Protocol):
+        """What has a journal's text."""
+
+        @property
+        def text(self) -> bytes: ...
+
+        def journal(self) -> bytes: ...
+
+    Self = TypeVar("Self", bound="Session")
 
 SECONDS = 10  # that a session waits for another one
 DEFAULT, VARIABLE, SERVICE = "registry.journal", "REGISTRY_JOURNAL", "REGISTRY_CONNECT"
 HEAD = b"registry-journal 2\n"
 TRIES, PAUSE = 20, 0.01  # of a file that changes while it is read
-EMPTY = {"op": "resolve", "needs": []}
+EMPTY: Request = {"op": "resolve", "needs": []}
 MISREAD = (ValueError, TypeError, LookupError, RecursionError)  # what comes of reading what is no journal as one
 IN_USE = r"journal .*: in use by another session"
 # what the program says as it ends, and what is told of that
 REASONS = [
     (IN_USE, "{path} is in use by another session: try again once that has ended"),
-    (r"journal (?:.*: )?line (\d+)(?: .*)?", "{path}: line {0} is at fault: `registry journal verify {path}` says why, and `registry journal "
-                                             "repair {path}` keeps what is before it"),
+    (r"journal (?:.*: )?line (\d+)(?: .*)?",
+     "{path}: line {0} is at fault: `registry journal verify {path}` says why, and `registry journal repair {path}` "
+     "keeps what is before it"),
     (r"journal .*?: (.+?)(?: \(os error \d+\))?", "{path}: {0}: --journal FILE names another"),
     (r"input failed", "{path} can't be read"),
     (r"output failed", "{path} can't be written: it has the commands that were accepted before"),
@@ -31,16 +53,18 @@ REASONS = [
 ]
 
 
-standing = None  # what a shell keeps open: see shell.py
+standing: shell.Standing | None = None  # what a shell keeps open: see shell.py
 
 
-def journal_of(given):
-    """The path of the journal that the words name, else that of the shell, else the environment, else the one in this folder."""
+def journal_of(given: Given) -> str:
+    """The path of the journal that the words name, else that of the shell, else the environment, else the one in this
+    folder."""
     return given.journal or (standing and standing.path) or os.environ.get(VARIABLE) or DEFAULT
 
 
-def service_of(given):
-    """The address of the service that the words name, else, where they name no journal, that of the shell or the environment."""
+def service_of(given: Given) -> str | None:
+    """The address of the service that the words name, else, where they name no journal, that of the shell or the
+    environment."""
     if given.connect and given.journal:
         raise Usage("--connect can't be used with --journal: a service has its own journal")
     if given.connect or given.journal:
@@ -48,33 +72,36 @@ def service_of(given):
     return standing.service if standing else os.environ.get(SERVICE)
 
 
-def patience_of(given):
+def patience_of(given: Given) -> float:
     """How many seconds a session waits for another one: as the words say, else those of the shell."""
-    named = getattr(given, "wait", None)
+    named: int | None = getattr(given, "wait", None)
     return named if named is not None else standing.patience if standing else SECONDS
 
 
-def reading(given):
-    """A session that reads. It answers `ask`, `each`, `journal`, `commands` and `close`, and one over a service answers the same."""
+def reading(given: Given) -> shapes.Reading:
+    """A session that reads. It answers `ask`, `each`, `journal`, `commands` and `close`, and one over a service answers
+    the same."""
     service, path = service_of(given), journal_of(given)
     if service:
         return connected(service)
     return (standing and standing.lent(path, patience=patience_of(given))) or Reading(path)
 
 
-def writing(given):
+def writing(given: Given) -> shapes.Asking:
     """A session whose commands are kept."""
     service, path, patience = service_of(given), journal_of(given), patience_of(given)
-    return connected(service) if service else (standing and standing.lent(path, True, patience)) or Writing(path, patience)
+    if service:
+        return connected(service)
+    return (standing and standing.lent(path, True, patience)) or Writing(path, patience)
 
 
-def connected(service):
+def connected(service: str) -> Connected:
     """A session with a service. What it takes is loaded only here."""
     from .connected import Connected
     return Connected(service)
 
 
-def read_steady(path):
+def read_steady(path: str) -> tuple[bytes, bool]:
     """The text of a journal's file, and whether it has an end. Read again where that is written over meanwhile."""
     for _ in range(TRIES):
         with open(path, "rb") as file:
@@ -88,13 +115,14 @@ def read_steady(path):
     return text, is_ended
 
 
-def snapshot(path):
-    """The text of a journal as it stands, up to its last whole line, with an end. While a session writes it there is none."""
+def snapshot(path: str) -> bytes:
+    """The text of a journal as it stands, up to its last whole line, with an end. While a session writes it there is
+    none."""
     try:
         text, is_ended = read_steady(path)
     except FileNotFoundError:
-        raise Failed(f"{path}: there is no such journal: `registry publish` or `registry import` begins one, and --journal FILE "
-                     f"names another") from None
+        raise Failed(f"{path}: there is no such journal: `registry publish` or `registry import` begins one, and "
+                     f"--journal FILE names another") from None
     except OSError as fault:
         raise Failed(told(fault)) from None
     if not is_ended:
@@ -103,8 +131,9 @@ def snapshot(path):
     return text
 
 
-def shared(text):
+def shared(text: bytes) -> IO[bytes]:
     """A file without a name that has this text, for a program to read."""
+    file: IO[bytes]
     if hasattr(os, "memfd_create"):
         file = open(os.memfd_create("journal"), "w+b")
     else:
@@ -115,11 +144,11 @@ def shared(text):
     return file
 
 
-def reason(said, path):
+def reason(told_line: str, path: str) -> str:
     """Why a program ended, by what it said on standard error; nothing where that tells no reason."""
     import re
     for form, told_as in REASONS:
-        found = re.fullmatch(f"registryd: {form}\n", said)
+        found = re.fullmatch(f"registryd: {form}\n", told_line)
         if found:
             return told_as.format(*found.groups(), path=path)
     return ""
@@ -127,21 +156,23 @@ def reason(said, path):
 
 class Session:
     """A program that answers request lines, begun with these words."""
-    group = None  # of processes: that of this command, so that a key that ends it ends the program too
+    group: int | None = None  # of processes: that of this command, so that a key that ends it ends the program too
 
-    def __init__(self, path, words, handed=()):
+    def __init__(self, path: str, words: Sequence[str], handed: Collection[int] = ()) -> None:
         self.path = path
         try:
-            self.process = tied.Tied([*program(), "serve", "--workers", "1", *words], stdin=subprocess.PIPE, stdout=subprocess.PIPE,
-                                     stderr=subprocess.PIPE, pass_fds=handed, process_group=self.group)
+            words = [*program(), "serve", "--workers", "1", *words]
+            self.process = tied.Tied(words, stdin=subprocess.PIPE, stdout=subprocess.PIPE, stderr=subprocess.PIPE,
+                                     pass_fds=handed, process_group=self.group)
         except OSError as fault:
             raise Failed(f"the program can't be started: {told(fault)}") from None
         self.said = ""
         self.hearing = threading.Thread(target=self.hear, daemon=True)
         self.hearing.start()
 
-    def hear(self):
-        """Keeps why the program ends, and passes on what else is said on standard error, as how far it is where it is built first."""
+    def hear(self) -> None:
+        """Keeps why the program ends, and passes on what else is said on standard error, as how far it is where it is
+        built first."""
         for line in self.process.stderr:
             text = line.decode(errors="replace")
             if reason(text, self.path):
@@ -150,7 +181,7 @@ class Session:
                 sys.stderr.write(text)
                 sys.stderr.flush()
 
-    def each(self, requests):
+    def each(self, requests: Sequence[Request]) -> Iterator[Reply]:
         """The replies to requests, each as it comes."""
         import json
         text = b"".join(json.dumps(it, separators=(",", ":")).encode() + b"\n" for it in requests)
@@ -161,23 +192,23 @@ class Session:
                 raise self.ended()
             yield json.loads(line)
 
-    def write(self, text):
+    def write(self, text: bytes) -> None:
         try:
             self.process.stdin.write(text)
             self.process.stdin.flush()
         except (OSError, ValueError):
             pass  # who waits for a reply is told how the program ended
 
-    def ask(self, *requests):
+    def ask(self, *requests: Request) -> list[Reply]:
         """The replies to requests, together."""
         with asking(self, requests):
             return list(self.each(requests))
 
-    def end_search(self):
+    def end_search(self) -> None:
         """Ends the program, since nothing else ends a search. What it was told as accepted is kept."""
         self.process.kill()
 
-    def ended(self):
+    def ended(self) -> Failed:
         """Why the program has ended, or is ended since it wrote no reply."""
         try:
             status = self.process.wait(timeout=1)
@@ -187,16 +218,17 @@ class Session:
         self.hearing.join()
         import re
         kind = InUse if re.fullmatch(f"registryd: {IN_USE}\n", self.said) else Failed
-        return kind(reason(self.said, self.path) or f"the program {' '.join(program())} ended with status {status} before it had answered")
+        how = f"the program {' '.join(program())} ended with status {status} before it had answered"
+        return kind(reason(self.said, self.path) or how)
 
-    def close(self):
+    def close(self) -> None:
         """Ends the input and waits for the program."""
         with contextlib.suppress(OSError):
             self.process.stdin.close()
         if self.process.stdout.read() or self.process.wait():
             raise self.ended()
 
-    def leave(self):
+    def leave(self) -> None:
         """Ends the program, whatever it does."""
         if self.process.poll() is None:
             self.process.kill()
@@ -207,10 +239,10 @@ class Session:
             with contextlib.suppress(OSError):
                 pipe.close()
 
-    def __enter__(self):
+    def __enter__(self: Self) -> Self:
         return self
 
-    def __exit__(self, kind, *_):
+    def __exit__(self, kind: type[BaseException] | None, *_: object) -> None:
         try:
             if kind is None or issubclass(kind, Refused):
                 self.close()
@@ -218,47 +250,48 @@ class Session:
         finally:
             self.leave()
 
-    def warn(self):
+    def warn(self) -> None:
         """Tells on standard error where the journal is near a limit."""
 
 
 class Reading(Session):
     """A session on a journal as it stood when this was begun, or as it is told to have stood."""
 
-    def __init__(self, path, text=None):
+    def __init__(self, path: str, text: bytes | None = None) -> None:
         self.text = snapshot(path) if text is None else text
         with shared(self.text) as file:
             super().__init__(path, [f"--load=/dev/fd/{file.fileno()}"], [file.fileno()])
         self.warnings = list(near_limits.warnings(path, self.text))  # while the program loads it
 
-    def journal(self):
+    def journal(self: HasText) -> bytes:
         """The journal's text."""
         return self.text
 
-    def commands(self):
+    def commands(self: HasText) -> list[Request]:
         """The accepted commands, in order."""
         import json
 
         from .catalog import commands_in
         return [json.loads(it) for it in commands_in(self.journal())]
 
-    def finish(self):
+    def finish(self) -> None:
         """Returns once the program has loaded the journal: it finds what is at fault there."""
         with bar.timed("waiting for the program"):
             list(self.each([EMPTY]))
 
-    def warn(self):
+    def warn(self) -> None:
         near_limits.tell(self.warnings)
 
-    def __exit__(self, kind, *_):
+    def __exit__(self, kind: type[BaseException] | None, *_: object) -> None:
         """What comes of reading a journal that is at fault is told as that fault, which the program finds."""
         super().__exit__(None if kind and issubclass(kind, MISREAD) else kind)
 
 
 class Writing(Session):
-    """A session that goes on with a journal's file, or begins one. Where another session has that, it waits so many seconds."""
+    """A session that goes on with a journal's file, or begins one. Where another session has that, it waits so many
+    seconds."""
 
-    def __init__(self, path, patience=SECONDS):
+    def __init__(self, path: str, patience: float = SECONDS) -> None:
         from .waiting import Turn
         self.turn = Turn(path, patience)
         try:
@@ -268,7 +301,7 @@ class Writing(Session):
             self.turn.leave()
             raise
 
-    def has_begun(self, path):
+    def has_begun(self, path: str) -> bool:
         """Whether a program has the journal, which is begun here; no other session does then."""
         super().__init__(path, [f"--journal={path}"])
         try:
@@ -280,9 +313,9 @@ class Writing(Session):
             raise
         return True
 
-    def leave(self):
+    def leave(self) -> None:
         super().leave()
         self.turn.leave()
 
-    def warn(self):
+    def warn(self) -> None:
         near_limits.warn(self.path)

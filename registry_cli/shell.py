@@ -1,14 +1,21 @@
-"""A shell: command lines one after the other, over one session that stays open. On a terminal they are typed, with a history and
-completion; else they are read to their end."""
+"""A shell: command lines one after the other, over one session that stays open. On a terminal they are typed, with a
+history and completion; else they are read to their end."""
+from __future__ import annotations
+
 import contextlib
 import os
 import shlex
 import signal
 import sys
 
-from . import near_limits, output, session
+from . import TYPE_CHECKING, near_limits, output, session
 from .failures import DONE, INTERRUPTED, USAGE, Refused
-from .main import EndedBySignal, guarded
+from .main import EndedBySignal, guarded, status_of
+
+if TYPE_CHECKING:
+    from collections.abc import Callable, Iterable, Iterator, Sequence
+
+    from .shapes import Reply, Request
 
 PROMPT, MOST_KEPT = "registry> ", 1000
 LEAVING = (["exit"], ["quit"])
@@ -20,23 +27,22 @@ class Kept(session.Writing):
     group = 0  # its own, since Ctrl-C at the prompt ends a line and no session
     journal, commands = session.Reading.journal, session.Reading.commands
 
-    def __init__(self, standing, patience):
+    def __init__(self, standing: Standing, patience: float) -> None:
         self.standing, self.waiting, self.is_writing = standing, 0, False
         super().__init__(standing.path, patience)
 
     @property
-    def text(self):
+    def text(self) -> bytes:
         """The journal as it stands: what was accepted stands in the file."""
         return session.snapshot(self.path)
 
-    def each(self, requests):
-        requests = list(requests)
+    def each(self, requests: Sequence[Request]) -> Iterator[Reply]:
         self.waiting += len(requests)
         for reply in super().each(requests):
             self.waiting -= 1
             yield reply
 
-    def __exit__(self, kind, *_):
+    def __exit__(self, kind: type[BaseException] | None, *_: object) -> None:
         if kind is None or issubclass(kind, Refused):
             while self.waiting and self.process.stdout.readline():
                 self.waiting -= 1
@@ -48,13 +54,14 @@ class Kept(session.Writing):
 
 
 class Standing:
-    """Lends the session to each command that asks the shell's journal. It is begun when it is first asked for, and anew where a
-    command broke it off. Where the shell asks a service, each command has a connection of its own."""
+    """Lends the session to each command that asks the shell's journal. It is begun when it is first asked for, and anew
+    where a command broke it off. Where the shell asks a service, each command has a connection of its own."""
 
-    def __init__(self, path, service=None, patience=session.SECONDS):
-        self.path, self.service, self.patience, self.session = path, service, patience, None
+    def __init__(self, path: str, service: str | None = None, patience: float = session.SECONDS) -> None:
+        self.path, self.service, self.patience = path, service, patience
+        self.session: Kept | None = None
 
-    def lent(self, path, is_writing=False, patience=session.SECONDS):
+    def lent(self, path: str, is_writing: bool = False, patience: float = session.SECONDS) -> Kept | None:
         """The session; none on another journal, and none for what only reads where there is no journal yet."""
         if path != self.path or not (is_writing or os.path.exists(path)):
             return None
@@ -62,7 +69,7 @@ class Standing:
         self.session.is_writing = is_writing
         return self.session
 
-    def close(self):
+    def close(self) -> None:
         if self.session:
             try:
                 self.session.close()
@@ -70,9 +77,9 @@ class Standing:
                 self.session.leave()
 
 
-def run(path, service=None, patience=session.SECONDS):
+def run(path: str, service: str | None = None, patience: float = session.SECONDS) -> int:
     """Obeys lines until they end; answers the status of the last one, 0 at a terminal."""
-    session.standing = Standing(path, service, patience)
+    standing = session.standing = Standing(path, service, patience)
     before = output.keep_choice(output.chosen)
     try:
         if not service:
@@ -81,11 +88,11 @@ def run(path, service=None, patience=session.SECONDS):
         return typed() if is_typed else read(sys.stdin)
     finally:
         output.keep_choice(before)
-        standing, session.standing = session.standing, None
+        session.standing = None
         standing.close()
 
 
-def read(lines):
+def read(lines: Iterable[str]) -> int:
     status = DONE
     for line in lines:
         words = words_of(line)
@@ -96,7 +103,7 @@ def read(lines):
     return status
 
 
-def typed():
+def typed() -> int:
     """Reads lines at the prompt. Ctrl-C ends a line, and Ctrl-D the shell."""
     remember = history()
     while True:
@@ -119,8 +126,9 @@ def typed():
 
 
 @contextlib.contextmanager
-def ticking():
-    """Wakes the wait for a key now and then: a signal that came just before that wait is heeded then, and not at the next key."""
+def ticking() -> Iterator[None]:
+    """Wakes the wait for a key now and then: a signal that came just before that wait is heeded then, and not at the
+    next key."""
     handler = signal.signal(signal.SIGALRM, lambda *_: None)
     signal.setitimer(signal.ITIMER_REAL, TICK, TICK)
     try:
@@ -130,8 +138,9 @@ def ticking():
         signal.signal(signal.SIGALRM, handler)
 
 
-def words_of(line):
-    """The words of a line, as a shell splits them; none where a quote does not end. The name of the command may stand before them."""
+def words_of(line: str) -> list[str] | None:
+    """The words of a line, as a shell splits them; none where a quote does not end. The name of the command may stand
+    before them."""
     try:
         words = shlex.split(line, comments=True)
     except ValueError:
@@ -140,7 +149,7 @@ def words_of(line):
     return words[1:] if words[:1] == ["registry"] else words
 
 
-def obey(words):
+def obey(words: list[str] | None) -> int:
     """The status of one command line."""
     if words is None:
         return USAGE
@@ -155,12 +164,12 @@ def obey(words):
     except EndedBySignal:
         raise
     except SystemExit as ended:  # argparse, when it has shown its help
-        return ended.code or DONE
+        return status_of(ended)
 
 
 # ---- at a terminal
 
-def history():
+def history() -> Callable[[], None]:
     """Begins with the lines of before, and answers what keeps one more; nothing is kept where that can't be."""
     try:
         import readline
@@ -178,13 +187,13 @@ def history():
         readline.read_history_file(path)
     readline.set_history_length(MOST_KEPT)
 
-    def remember():
+    def remember() -> None:
         with contextlib.suppress(OSError):
             readline.append_history_file(1, path)
     return remember
 
 
-def history_path():
+def history_path() -> str:
     """Where the lines are kept: see the XDG Base Directory Specification."""
     state = os.environ.get("XDG_STATE_HOME", "")
     folder = state if os.path.isabs(state) else os.path.join(os.path.expanduser("~"), ".local", "state")

@@ -1,12 +1,16 @@
 """Programs that end with the one that began them, however that one ends.
 
-The system sends a signal to whoever owns a pipe's end once nobody holds the other end any more. So a program inherits the one end and is
-made its owner, and whoever began it holds the other and closes it by ending, also by SIGKILL in the middle of a search. A process's
-death signal (`PR_SET_PDEATHSIG`) would come when the thread ends that began it, and would need code between fork and exec.
+The system sends a signal to whoever owns a pipe's end once nobody holds the other end any more. So a program inherits
+the one end and is made its owner, and whoever began it holds the other and closes it by ending, also by SIGKILL in the
+middle of a search. A process's death signal (`PR_SET_PDEATHSIG`) would come when the thread ends that began it, and
+would need code between fork and exec.
 
 A program that is begun and not yet tied has been asked nothing: it ends with its closed input.
 
-What is installed begins the program without its script, so glibc is asked here for huge pages, as `./registryd` does."""
+What is installed begins the program without its script, so glibc is asked here for huge pages, as `./registryd`
+does."""
+from __future__ import annotations
+
 import contextlib
 import fcntl
 import os
@@ -15,10 +19,21 @@ import signal
 import subprocess
 import threading
 
+from . import TYPE_CHECKING
+
+if TYPE_CHECKING:
+    from collections.abc import Callable, Collection, Mapping, Sequence
+    from typing import IO, Any, Protocol
+
+    class HasNumber(Protocol):
+        """A file, or a socket."""
+
+        def fileno(self) -> int: ...
+
 TUNABLES, HUGE_PAGES = "GLIBC_TUNABLES", "glibc.malloc.hugetlb="
 
 
-def environment():
+def environment() -> dict[str, str]:
     """This environment, in which glibc is asked for huge pages, unless the user has set that."""
     given = os.environ.get(TUNABLES, "")
     if f":{HUGE_PAGES}" in f":{given}":
@@ -26,16 +41,20 @@ def environment():
     return {**os.environ, TUNABLES: f"{HUGE_PAGES}1:{given}" if given else f"{HUGE_PAGES}1"}
 
 
-class Tied(subprocess.Popen):
-    """A program that is killed when this process ends, with all of its group where it has a group of its own. Where no environment is
-    given, it has that of `environment`."""
-    held = None  # the other end of the pipe that it owns
+class Tied(subprocess.Popen[bytes]):
+    """A program that is killed when this process ends, with all of its group where it has a group of its own. Where no
+    environment is given, it has that of `environment`."""
+    stdin: IO[bytes]  # which are none, as in the class above, where no pipe was asked for
+    stdout: IO[bytes]
+    stderr: IO[bytes]
+    held: int | None = None  # the other end of the pipe that it owns
 
-    def __init__(self, words, *, pass_fds=(), process_group=None, env=None, **how):
+    def __init__(self, words: Sequence[str], *, pass_fds: Collection[int] = (), process_group: int | None = None,
+                 env: Mapping[str, str] | None = None, **how: Any) -> None:
         watched, self.held = os.pipe()
         try:
-            super().__init__(words, pass_fds=[watched, *pass_fds], process_group=process_group, env=environment() if env is None else env,
-                             **how)
+            super().__init__(words, pass_fds=[watched, *pass_fds], process_group=process_group,
+                             env=environment() if env is None else env, **how)
             fcntl.fcntl(watched, fcntl.F_SETOWN, self.pid if process_group is None else -self.pid)
             fcntl.fcntl(watched, fcntl.F_SETSIG, signal.SIGKILL)
             fcntl.fcntl(watched, fcntl.F_SETFL, os.O_ASYNC)
@@ -45,26 +64,28 @@ class Tied(subprocess.Popen):
         finally:
             os.close(watched)
 
-    def let_go(self):
+    def let_go(self) -> None:
         """Closes what ties it: whatever then still runs of it is killed."""
         held, self.held = self.held, None
         if held is not None:
             os.close(held)
 
-    def __exit__(self, *how):
+    def __exit__(self, *how: Any) -> None:
         try:
             super().__exit__(*how)
         finally:
             self.let_go()
 
-    def __del__(self, *more):
+    def __del__(self, *more: Any) -> None:
         self.let_go()
-        super().__del__(*more)
+        super().__del__(*more)  # type: ignore[misc]  # it is there, and the types of the library leave it out
 
 
-def run(words, *, input=None, timeout=None, **how):
+def run(words: Sequence[str], *, input: bytes | None = None, timeout: float | None = None,
+        **how: Any) -> subprocess.CompletedProcess[bytes]:
     """`subprocess.run` of a program that ends with this process. Without an input it reads nothing."""
-    with Tied(words, **{"stdin": subprocess.DEVNULL if input is None else subprocess.PIPE, **how}) as running:
+    how.setdefault("stdin", subprocess.DEVNULL if input is None else subprocess.PIPE)
+    with Tied(words, **how) as running:
         try:
             said = running.communicate(input, timeout)
         except BaseException:
@@ -73,14 +94,14 @@ def run(words, *, input=None, timeout=None, **how):
     return subprocess.CompletedProcess(words, running.returncode, *said)
 
 
-def when_unread(file, do):
-    """Does this as soon as nobody can read any more what is written to a pipe or a socket. Where the file is something else it is
-    never done."""
+def when_unread(file: HasNumber, do: Callable[[], object]) -> None:
+    """Does this as soon as nobody can read any more what is written to a pipe or a socket. Where the file is something
+    else it is never done."""
     with contextlib.suppress(OSError, ValueError):
         watched = select.poll()
         watched.register(file.fileno(), 0)
 
-        def wait():
+        def wait() -> None:
             watched.poll()
             do()
         threading.Thread(target=wait, daemon=True).start()

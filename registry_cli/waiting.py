@@ -1,25 +1,33 @@
 """Waiting for a journal that another session writes.
 
-Whoever waits first takes its turn: a lock of this command's own on the journal's file (`lockf`), beside the one that a session's program
-has (`flock`). So of many sessions one at a time begins its program, in no certain order. The system takes both locks off as soon as their
-process has ended."""
+Whoever waits first takes its turn: a lock of this command's own on the journal's file (`lockf`), beside the one that a
+session's program has (`flock`). So of many sessions one at a time begins its program, in no certain order. The system
+takes both locks off as soon as their process has ended."""
+from __future__ import annotations
+
 import contextlib
 import fcntl
 import os
 import time
 from collections import namedtuple
 
+from . import TYPE_CHECKING
 from .command_line import split
 from .failures import InUse, Usage
 from .output import Output
+
+if TYPE_CHECKING:
+    from io import FileIO
 
 LOOK, LONGEST, SILENT = 0.1, 0.5, 1  # seconds: between two looks, at most between two tries, and until it is told
 
 
 class Holder(namedtuple("Holder", "pid words")):
     """The process that has a journal's lock, or the command `registry` that has begun it, and its command line."""
+    pid: int
+    words: list[str]
 
-    def __str__(self):
+    def __str__(self) -> str:
         """Who it is, as far as that is known."""
         from registryd_lines.fault import shown
         name, *others = self.words or [""]
@@ -27,7 +35,7 @@ class Holder(namedtuple("Holder", "pid words")):
         return f"process {self.pid}" + (f", {command}" if name else "")
 
     @property
-    def is_service(self):
+    def is_service(self) -> bool:
         """Whether it has the journal until someone ends it, and answers others meanwhile."""
         with contextlib.suppress(Usage):
             found, _ = split(self.words[1:])
@@ -35,7 +43,7 @@ class Holder(namedtuple("Holder", "pid words")):
         return False
 
 
-def holding(path):
+def holding(path: str) -> int:
     """The process that has the lock of a file; 0 where the system doesn't tell."""
     with contextlib.suppress(OSError, ValueError):
         found = os.stat(path)
@@ -47,7 +55,7 @@ def holding(path):
     return 0
 
 
-def holder(path):
+def holder(path: str) -> Holder | None:
     """Who has the lock of a file; none where the system doesn't tell."""
     pid = holding(path)
     with contextlib.suppress(OSError, ValueError):
@@ -57,7 +65,7 @@ def holder(path):
     return None
 
 
-def words_of(pid):
+def words_of(pid: int) -> list[str]:
     """The command line of a process, that of the command `registry` without the interpreter."""
     with open(f"/proc/{pid}/cmdline", "rb") as file:
         words = file.read().decode(errors="replace").split("\0")[:-1]
@@ -65,37 +73,40 @@ def words_of(pid):
     return words if at is None else ["registry", *words[at + 1:]]
 
 
-def parent(pid):
+def parent(pid: int) -> int:
     with open(f"/proc/{pid}/stat", "rb") as file:
         return int(file.read().rpartition(b")")[2].split()[1])  # behind the name, in which anything may stand
 
 
 class Turn:
-    """A session's turn to begin its program, for which it waits so many seconds, and as long again for each other session that has the journal
-    meanwhile."""
+    """A session's turn to begin its program, for which it waits so many seconds, and as long again for each other
+    session that has the journal meanwhile."""
 
-    def __init__(self, path, seconds):
+    def __init__(self, path: str, seconds: float) -> None:
         self.path, self.seconds, self.begun = path, seconds, time.monotonic()
-        self.pid, self.left = 0, seconds  # who has the journal, and for how long that is still waited for; what a try takes does not count
-        self.file, self.pause, self.is_told = None, LOOK, False
+        # who has the journal, and for how long that is still waited for; what a try takes does not count
+        self.pid, self.left = 0, seconds
+        self.file: FileIO | None = None
+        self.pause, self.is_told = LOOK, False
         self.enter()
 
-    def enter(self):
+    def enter(self) -> None:
         """Returns once the turn has come, or the time is over; at once where there is no file that may be written."""
         if self.file is None and os.path.isfile(self.path):
             with contextlib.suppress(OSError):
                 self.file = open(self.path, "rb+", buffering=0)
-                while not self.has_come() and self.waits(LOOK):
+                while not self.has_come(self.file) and self.waits(LOOK):
                     pass
 
-    def has_come(self):
+    @staticmethod
+    def has_come(file: FileIO) -> bool:
         try:
-            fcntl.lockf(self.file, fcntl.LOCK_EX | fcntl.LOCK_NB)
+            fcntl.lockf(file, fcntl.LOCK_EX | fcntl.LOCK_NB)
         except OSError:
             return False
         return True
 
-    def again(self):
+    def again(self) -> None:
         """Waits before another try; raises where there is no time for one, or waiting is of no use."""
         found = holder(self.path)
         if found and found.is_service:
@@ -108,7 +119,7 @@ class Turn:
         else:
             self.leave()  # on a network file system the two locks may be one, and that of the turn is in the way then
 
-    def waits(self, seconds):
+    def waits(self, seconds: float) -> bool:
         """Waits, and answers whether there was time to. Once that takes long it is told."""
         pid = holding(self.path)
         if pid and pid != self.pid:
@@ -125,10 +136,10 @@ class Turn:
         return True
 
     @staticmethod
-    def told(found):
+    def told(found: Holder | None) -> str:
         return "another session" + (f" ({found})" if found else "")
 
-    def leave(self):
+    def leave(self) -> None:
         file, self.file = self.file, None
         if file:
             file.close()

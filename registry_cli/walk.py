@@ -1,20 +1,33 @@
-"""The walk of a selection: its packages in the order in which they are asked for, and which version is preferred to which."""
-from .check_derivation import read_version
+"""The walk of a selection: its packages in the order in which they are asked for, and which version is preferred to
+which."""
+from __future__ import annotations
+
+from . import TYPE_CHECKING
+from .check_derivation import precedence
+
+if TYPE_CHECKING:
+    from collections.abc import Mapping
+
+    from .check_derivation import Registry
+    from .shapes import Pairs
 
 
-def walk(needs, selected, registry):
-    """The packages of a selection: first the needs, by name, and then what each listed one depends on, as it was published."""
+def walk(needs: Pairs, selected: Mapping[str, str], registry: Registry) -> list[str]:
+    """The packages of a selection: first the needs, by name, and then what each listed one depends on, as it was
+    published."""
     listed = dict.fromkeys(sorted(dict(needs)))
     waiting = list(listed)
     for name in waiting:  # which grows
-        for target in registry.find(name, selected[name]).needs:
+        release = registry.find(name, selected[name])
+        assert release
+        for target in release.needs:
             if target not in listed:
                 listed[target] = None
                 waiting.append(target)
     return waiting
 
 
-def is_preferred(one, other, locked=None):
+def is_preferred(one: str, other: str, locked: str | None = None) -> bool:
     """Whether of two versions of a package the first is preferred: the one that the lock names, else the higher one."""
-    first, second, kept = (read_version(it) if it else None for it in (one, other, locked))
+    first, second, kept = precedence(one), precedence(other), precedence(locked) if locked else None
     return first != second and (first == kept or (second != kept and first > second))

@@ -1,17 +1,31 @@
 """`registry check`: which request lines would be refused for what they say, and what was probably meant."""
+from __future__ import annotations
+
 import contextlib
 import sys
 
 from registryd_lines.fault import placed
 from registryd_lines.judging import faults
 
+from .. import TYPE_CHECKING
 from ..failures import DONE, REFUSED, Failed, told
 from ..limits import MOST_LINE_BYTES
 
+if TYPE_CHECKING:
+    from collections.abc import Iterator
+    from contextlib import AbstractContextManager
+    from typing import BinaryIO
 
-def run(given, out):
+    from registryd_lines.fault import Fault
+
+    from ..output import Output
+    from ..shapes import Given
+
+
+def run(given: Given, out: Output) -> int:
     name = "<stdin>" if given.file == "-" else given.file
-    found, wrong, count = [], 0, 0
+    found: list[dict[str, object]] = []
+    wrong, count = 0, 0
     for count, line in enumerate(lines_of(given.file), 1):
         of_line = faults(line)
         wrong += bool(of_line)
@@ -27,10 +41,13 @@ def run(given, out):
     return REFUSED if wrong else DONE
 
 
-def lines_of(path):
+def lines_of(path: str) -> Iterator[bytes]:
     """The lines of a file, of those that are too long a beginning that is too long as well."""
     try:
-        with contextlib.nullcontext(sys.stdin.buffer) if path == "-" else open(path, "rb") as file:
+        source: AbstractContextManager[BinaryIO] = contextlib.nullcontext(sys.stdin.buffer)
+        if path != "-":
+            source = open(path, "rb")
+        with source as file:
             while line := file.readline(MOST_LINE_BYTES + 1):
                 rest = line
                 while rest and not rest.endswith(b"\n"):
@@ -40,5 +57,6 @@ def lines_of(path):
         raise Failed(told(fault)) from None
 
 
-def as_json(line, fault):
-    return {"column": fault.place + 1, "error": fault.number, "line": line, "meant": fault.meant, "name": fault.name, "what": fault.what}
+def as_json(line: int, fault: Fault) -> dict[str, object]:
+    return {"column": fault.place + 1, "error": fault.number, "line": line, "meant": fault.meant, "name": fault.name,
+            "what": fault.what}

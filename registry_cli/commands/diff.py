@@ -1,9 +1,16 @@
 """`registry diff`: what changed between two lock files."""
+from __future__ import annotations
+
+from .. import TYPE_CHECKING
 from ..failures import REFUSED
 from ..locks import changed, changes, coloured, counted, lock_of
 
+if TYPE_CHECKING:
+    from ..output import Output
+    from ..shapes import Given
 
-def run(given, out):
+
+def run(given: Given, out: Output) -> int | None:
     old, new = lock_of(given.old).selected, lock_of(given.new).selected
     lines = changes(old, new)
     out.give(changed(old, new), [*coloured(lines, out), counted(lines)])

@@ -1,7 +1,10 @@
 """`registry import`: crates that are on this machine, published in an order that is accepted."""
+from __future__ import annotations
+
 import json
 import sys
 
+from .. import TYPE_CHECKING
 from ..alone import Alone
 from ..bar import Bar, busy
 from ..failures import REFUSED, Refused, Usage
@@ -17,10 +20,18 @@ from ..refusals import english, listed
 from ..session import reading, writing
 from ..shelf import Shelf, choose, commands_of, counted, noted, other_spellings, request, roots
 
+if TYPE_CHECKING:
+    from collections.abc import Sequence
+
+    from ..indexes.index import Dependency, Index
+    from ..output import Output
+    from ..shapes import Given, Pairs, Reply, Request
+    from ..shelf import Chosen
+
 THERE_ALREADY = (7, 12)  # it is published, or yanked, already
 
 
-def run(given, out):
+def run(given: Given, out: Output) -> int | None:
     if given.ask and not given.lines:
         raise Usage("--ask needs --lines: `registry resolve` asks the registry")
     lock_file = getattr(given, "write", None)
@@ -44,18 +55,23 @@ def run(given, out):
     return status
 
 
-def opened(given):
+def opened(given: Given) -> Index:
     """The reader of the index that is named."""
     if given.subcommand == "import crates-io":
         return CratesIo(given.dir)
     if given.subcommand == "import cargo":
         return Cargo(given.dir, CratesIo(given.index) if given.index else None)
-    return Debian(read_bounded(given.file).decode(errors="replace").replace("\r\n", "\n") if given.file else Debian.of_this_machine())
+    if not given.file:
+        return Debian(Debian.of_this_machine())
+    return Debian(read_bounded(given.file).decode(errors="replace").replace("\r\n", "\n"))
 
 
-def published(given, commands, chosen, notes, out):
+def published(given: Given, commands: Sequence[Request], chosen: Chosen, notes: Sequence[str],
+              out: Output) -> int | None:
     """Sends the commands, and says what became of them."""
-    accepted, there, refused, reply, bar = 0, 0, {}, {"revision": 0}, Bar("importing", len(commands))
+    reply: Reply = {"revision": 0}
+    refused: dict[str, list[str]] = {}
+    accepted, there, bar = 0, 0, Bar("importing", len(commands))
     with writing(given) as session:
         if not given.both_spellings:
             refuse_spellings(other_spellings(chosen, listed(session)))
@@ -68,29 +84,31 @@ def published(given, commands, chosen, notes, out):
             else:
                 refused.setdefault(english(command, reply, dict), []).append(f"{command['name']} {command['version']}")
     bar.end()
-    if there:
-        notes = [*notes, f"skipped: commands that were carried out before: {there}"]
-    notes += [f"refused: {said}: {len(of)} (first: {of[0]})" for said, of in refused.items()]
+    told = [*notes, *([f"skipped: commands that were carried out before: {there}"] if there else []),
+            *(f"refused: {why}: {len(names)} (first: {names[0]})" for why, names in refused.items())]
     with reading(given) as session:
         alone = Alone(session, [name for name, releases in chosen.items() if releases])
-    out.give({"accepted": accepted, "passed_over": there, "refused": sum(map(len, refused.values())), "revision": reply["revision"], "notes": notes,
-              "alone": alone.value()}, [f"imported: {counted(chosen)} (revision {reply['revision']})"])
+    out.give({"accepted": accepted, "passed_over": there, "refused": sum(map(len, refused.values())),
+              "revision": reply["revision"], "notes": told, "alone": alone.value()},
+             [f"imported: {counted(chosen)} (revision {reply['revision']})"])
     sys.stdout.flush()
     if not out.is_json:
-        aside(*notes, *alone.lines())
+        aside(*told, *alone.lines())
     return REFUSED if refused else None
 
 
-def refuse_spellings(pairs):
-    """Ends an import of names that the journal has in another spelling: what is needed would be found under one of the two alone."""
+def refuse_spellings(pairs: Sequence[tuple[str, str]]) -> None:
+    """Ends an import of names that the journal has in another spelling: what is needed would be found under one of the
+    two alone."""
     if pairs:
         name, there = pairs[0]
         count = f"{len(pairs)} name{'s differ' if len(pairs) > 1 else ' differs'}"
-        raise Refused(f"nothing is imported: {count} from the journal's only in - and _ (first: {name}, which is {there} there): "
+        there_is = f"(first: {name}, which is {there} there)"
+        raise Refused(f"nothing is imported: {count} from the journal's only in - and _ {there_is}: "
                       "import into another journal, which --journal FILE names, or add --both-spellings")
 
 
-def keep(path, locked, needs, out):
+def keep(path: str, locked: Pairs, needs: Sequence[Dependency], out: Output) -> None:
     """Writes what Cargo.lock has as a lock file, and beside it the needs that were begun with."""
     write_file(path, lock_text(Lock(dict(locked))))
     write_needs(needs_path(path), [list(it) for it in needs])

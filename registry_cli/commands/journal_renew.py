@@ -1,19 +1,37 @@
 """`registry journal renew`: a journal with less in it, which selects each lock file as before."""
-from .. import near_limits
+from __future__ import annotations
+
+from .. import TYPE_CHECKING, near_limits
 from ..bar import Bar
 from ..failures import Failed, Refused
 from ..journal_file import CUT, FAULTY, Over, fault_line, journal_text, read_journal, refuse_existing, write_new
 from ..locks import lock_of
 from ..renewal import Lock, commands_of, line_of, needed, newest, releases_of
 
+if TYPE_CHECKING:
+    from collections.abc import Collection, Iterator, Mapping, Sequence
+    from typing import Protocol
+
+    from ..journal_file import Journal
+    from ..output import Output
+    from ..renewal import Key, Releases
+
+    class Given(Protocol):
+        """The words of this subcommand, whose --lock takes many."""
+        old: str
+        new: str
+        lock: list[str] | None
+        newest: int | None
+
 NEWEST = 3
 MOST_TOLD = 20
 
 
-def run(given, out):
+def run(given: Given, out: Output) -> None:
     old = read_journal(given.old)
     if old.state == FAULTY:
-        raise Refused(f"{given.old}: line {old.line} is at fault: `registry journal repair {given.old}` keeps what is before it")
+        remedy = f"`registry journal repair {given.old}` keeps what is before it"
+        raise Refused(f"{given.old}: line {old.line} is at fault: {remedy}")
     refuse_existing(given.new)
     if old.state == CUT:
         out.note(f"{given.old} has no end line: what a session adds from now on is not copied")
@@ -29,23 +47,24 @@ def run(given, out):
     checked(given.new, text, locks)
     write_new(given.new, text, given.old)
     left = left_out(releases, kept)
-    out.give({"written": given.new, "revision": len(commands), "locks": {it.path: it.is_selected for it in locks}, "left_out": left,
+    selected = {it.path: it.is_selected for it in locks}
+    out.give({"written": given.new, "revision": len(commands), "locks": selected, "left_out": left,
               "learnt_left_out": old.learnt}, in_words(given.new, old, commands, releases, locks, left))
     near_limits.warn(given.new, text)
 
 
-def chosen(path, old, releases, locks, most):
+def chosen(path: str, old: Journal, releases: Releases, locks: Sequence[Lock], most: int) -> set[Key]:
     """The keys of the releases that are kept."""
     kept = newest(releases, most)
     bar = Bar("asking what is needed", len(kept))
     with Over(path, journal_text(old.items)) as session:
-        of_locks = set().union(*(it.remember(session) for it in locks))
+        of_locks: set[Key] = set().union(*(it.remember(session) for it in locks))
         kept |= needed(session, releases, kept, bar)
     bar.end()
     return (kept | of_locks) & set(releases)
 
 
-def checked(path, text, locks):
+def checked(path: str, text: bytes, locks: Sequence[Lock]) -> None:
     """Whether the new journal is taken, and each lock file selected in it as before."""
     if fault_line(path, text):
         raise Failed("the program refuses the new journal, so it is not written")
@@ -55,16 +74,17 @@ def checked(path, text, locks):
                 raise Failed(f"{lock.path} would not be selected as before, so {path} is not written")
 
 
-def left_out(releases, kept):
+def left_out(releases: Releases, kept: Collection[Key]) -> dict[str, list[str]]:
     """The versions that are left out, by package."""
-    left = {}
+    left: dict[str, list[str]] = {}
     for key, it in releases.items():
         if key not in kept:
             left.setdefault(it.name, []).append(it.text)
     return dict(sorted(left.items()))
 
 
-def in_words(path, old, commands, releases, locks, left):
+def in_words(path: str, old: Journal, commands: Sequence[object], releases: Releases, locks: Sequence[Lock],
+             left: Mapping[str, Sequence[str]]) -> Iterator[str]:
     yield f"{path} is written: {len(commands):,} commands in place of {old.revision:,}"
     for lock in locks:
         yield f"{lock.path}: " + (f"selected as it is, {len(lock.keys):,} packages" if lock.is_selected
@@ -72,7 +92,7 @@ def in_words(path, old, commands, releases, locks, left):
     count = sum(map(len, left.values()))
     learnt = f", and {old.learnt:,} learnt" if old.learnt else ""
     yield f"left out: {count:,} of {len(releases):,} versions{learnt}" + (":" if left else "")
-    versions = {}
+    versions: dict[str, int] = {}
     for name, _ in releases:
         versions[name] = versions.get(name, 0) + 1
     for name in list(left)[:MOST_TOLD]:
@@ -81,7 +101,7 @@ def in_words(path, old, commands, releases, locks, left):
         yield f"  and versions of {len(left) - MOST_TOLD:,} packages more (--json tells all)"
 
 
-def told(left, count):
+def told(left: Sequence[str], count: int) -> str:
     """The versions of a package that are left out, of many the first and the last."""
     named = ", ".join(left) if len(left) <= 3 else f"{left[0]} to {left[-1]}, {len(left)} of {count} versions"
     return named + (": none is kept" if len(left) == count else "")

@@ -1,42 +1,56 @@
 """`registry journal repair`: the longest lawful beginning of a journal's file, as a file of its own."""
+from __future__ import annotations
+
 import json
 
 from registryd_lines.fault import shown
 
+from .. import TYPE_CHECKING
 from ..failures import Failed, Refused
 from ..journal_file import FAULTY, fault_line, read_journal, refuse_existing, write_new
+
+if TYPE_CHECKING:
+    from collections.abc import Iterator, Sequence
+
+    from ..journal_file import Journal
+    from ..output import Output
+    from ..shapes import Given
 
 MOST_TOLD, MOST_SHOWN = 10, 200
 
 
-def run(given, out):
+def run(given: Given, out: Output) -> None:
     path, journal = given.file, read_journal(given.file)
     new = given.output or f"{path}.repaired"
     if not journal.line:
-        out.give({"file": path, "state": journal.state, "written": None}, [f"{path} is whole: there is nothing to repair"])
+        whole = f"{path} is whole: there is nothing to repair"
+        out.give({"file": path, "state": journal.state, "written": None}, [whole])
         return
     if not journal.format and journal.state == FAULTY:
-        raise Refused(f"{path} has nothing to keep: its first line is at fault, and `registry journal verify {path}` says why")
+        remedy = f"its first line is at fault, and `registry journal verify {path}` says why"
+        raise Refused(f"{path} has nothing to keep: {remedy}")
     refuse_existing(new)
     dropped = dropped_lines(journal)
     text = journal.kept()
     if fault_line(new, text):
         raise Failed(f"{path}: the program refuses what is lawful of it, so nothing is written")
     write_new(new, text, path)
-    out.give({"file": path, "state": journal.state, "written": new, "items": len(journal.items), "revision": journal.revision, "line": journal.line,
+    out.give({"file": path, "state": journal.state, "written": new, "items": len(journal.items),
+              "revision": journal.revision, "line": journal.line,
               "dropped": [it.decode(errors="replace") for _, it in dropped]}, in_words(path, new, journal, dropped))
 
 
-def dropped_lines(journal):
+def dropped_lines(journal: Journal) -> list[tuple[int, bytes]]:
     """What stands from the line at fault on, each with the number of its line, but for an end."""
     rest = list(enumerate(journal.lines[journal.line - 1:], journal.line))
     return [(number, it) for number, it in rest if it and not it.startswith(b"end ")]
 
 
-def in_words(path, new, journal, dropped):
-    yield f"{new} is written: {len(journal.items):,} item{'' if len(journal.items) == 1 else 's'}, revision {journal.revision}"
+def in_words(path: str, new: str, journal: Journal, dropped: Sequence[tuple[int, bytes]]) -> Iterator[str]:
+    yield f"{new} is written: {counted(len(journal.items), 'item')}, revision {journal.revision}"
     size = sum(len(it) for _, it in dropped)
-    yield f"dropped from line {journal.line} on: {len(dropped):,} line{'' if len(dropped) == 1 else 's'}, {size:,} bytes" + (":" if dropped else "")
+    lines = counted(len(dropped), "line")
+    yield f"dropped from line {journal.line} on: {lines}, {size:,} bytes" + (":" if dropped else "")
     for number, it in dropped[:MOST_TOLD]:
         yield f"  line {number}: {described(it)}"
     if len(dropped) > MOST_TOLD:
@@ -45,10 +59,16 @@ def in_words(path, new, journal, dropped):
         yield f"these commands are still in {path} as request lines, which can be sent again"
 
 
-def described(line):
+def counted(count: int, what: str) -> str:
+    return f"{count:,} {what}{'' if count == 1 else 's'}"
+
+
+def described(line: bytes) -> str:
     """A dropped line in short."""
     try:
-        said = json.loads(line)
-        return f"{said['op']} {said['name']} {said['version']}"[:MOST_SHOWN] if said["op"] != "learn" else "what was learnt"
+        item = json.loads(line)
+        if item["op"] == "learn":
+            return "what was learnt"
+        return f"{item['op']} {item['name']} {item['version']}"[:MOST_SHOWN]
     except (ValueError, KeyError, TypeError, RecursionError):
         return shown(line[:MOST_SHOWN].decode(errors="replace"))

@@ -1,11 +1,29 @@
 """`registry list` and `registry search`: the packages, each with its newest version."""
-from types import SimpleNamespace
+from __future__ import annotations
 
+from collections import namedtuple
+
+from .. import TYPE_CHECKING
 from ..failures import REFUSED
 from ..session import Reading, reading
 
+if TYPE_CHECKING:
+    from collections.abc import Iterator, Sequence
 
-def run(given, out):
+    from .. import shapes
+    from ..output import Output
+    from ..shapes import Given, Listed
+
+
+class Row(namedtuple("Row", "name newest versions yanked")):
+    """A package in short: its newest version, and how many it has."""
+    name: str
+    newest: str
+    versions: int
+    yanked: int
+
+
+def run(given: Given, out: Output) -> int | None:
     text = getattr(given, "text", "")
     with reading(given) as session:
         packages = packages_of(session)
@@ -15,7 +33,7 @@ def run(given, out):
         del packages  # to let go of many takes time, and the program still loads the journal
         if isinstance(session, Reading):
             session.finish()
-    out.give([vars(it) for it in rows], shown)
+    out.give([it._asdict() for it in rows], shown)
     if text and not rows:
         from registryd_lines.nearest import nearest
         near = nearest(text, names)
@@ -24,8 +42,9 @@ def run(given, out):
     return None
 
 
-def packages_of(session):
-    """By package its versions. They are read from a journal while the program loads it; what holds one already is asked for them."""
+def packages_of(session: shapes.Reading) -> dict[str, list[Listed]]:
+    """By package its versions. They are read from a journal while the program loads it; what holds one already is asked
+    for them."""
     if isinstance(session, Reading):
         from ..catalog import listed_in
         return listed_in(session.text)
@@ -33,15 +52,15 @@ def packages_of(session):
     return listed(session)
 
 
-def row(name, versions):
+def row(name: str, versions: Sequence[Listed]) -> Row:
     """A package in short."""
     from ..catalog import rank
     held = [text for text, is_yanked in versions if not is_yanked]
     newest = max(held or [text for text, _ in versions], key=rank)
-    return SimpleNamespace(name=name, newest=newest, versions=len(versions), yanked=len(versions) - len(held))
+    return Row(name, newest, len(versions), len(versions) - len(held))
 
 
-def lines(rows, out):
+def lines(rows: Sequence[Row], out: Output) -> Iterator[str]:
     """The packages one below another."""
     wide = max((len(it.name) for it in rows), default=0)
     newest = max((len(it.newest) for it in rows), default=0)

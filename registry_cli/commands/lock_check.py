@@ -1,6 +1,9 @@
 """`registry lock check`: whether a lock file holds: each version is there, and the lock has what each needs."""
+from __future__ import annotations
+
+from .. import TYPE_CHECKING
 from ..catalog import catalog_of
-from ..check_derivation import admits, read_version
+from ..check_derivation import admits, precedence
 from ..failures import REFUSED
 from ..locks import lock_of
 from ..needs import needs_known
@@ -9,23 +12,34 @@ from ..refusals import accepted, listed, not_there
 from ..session import reading
 from ..walk import walk
 
+if TYPE_CHECKING:
+    from collections.abc import Iterable, Iterator, Mapping, Sequence
 
-def run(given, out):
+    from ..check_derivation import Registry
+    from ..output import Output
+    from ..shapes import Given, Listed, Request
+
+
+def run(given: Given, out: Output) -> int | None:
     path, lock, needs = given.file, lock_of(given.file).selected, needs_known(given.need, given.file)
-    judged = {"op": "check", "needs": needs or [], "derivation": []}  # the program says whether these are needs
+    # the program says whether these are needs
+    judged: Request = {"op": "check", "needs": needs or [], "derivation": []}
     with reading(given) as session:
         accepted(session, judged, *session.ask(judged))
         packages, registry = listed(session), registry_in(catalog_of(session.journal()), lock)
     found = list(faults(lock, needs or [], registry, packages))
     if not found and needs is not None:
-        found = [(name, f"nothing needs {name} {lock[name]}") for name in sorted(set(lock) - set(walk(needs, lock, registry)))]
+        unneeded = sorted(set(lock) - set(walk(needs, lock, registry)))
+        found = [(name, f"nothing needs {name} {lock[name]}") for name in unneeded]
     count = f"{len(lock):,} package{'' if len(lock) == 1 else 's'}"
-    out.give({"file": path, "packages": len(lock), "faults": [{"name": name, "what": what} for name, what in found], "revision": registry.revision},
-             [f"{out.style(f'{path}:', 'bold')} {what}" for _, what in found] or [f"{path}: whole: {count}, revision {registry.revision}"])
+    told = [f"{out.style(f'{path}:', 'bold')} {what}" for _, what in found]
+    out.give({"file": path, "packages": len(lock), "faults": [{"name": name, "what": what} for name, what in found],
+              "revision": registry.revision}, told or [f"{path}: whole: {count}, revision {registry.revision}"])
     return REFUSED if found else None
 
 
-def faults(lock, needs, registry, packages):
+def faults(lock: Mapping[str, str], needs: Iterable[Sequence[str]], registry: Registry,
+           packages: Mapping[str, Sequence[Listed]]) -> Iterator[tuple[str, str]]:
     """What is not there, yanked or not met, each with the package that is at fault."""
     for name, text in sorted(lock.items()):
         release = registry.find(name, text)
@@ -39,8 +53,8 @@ def faults(lock, needs, registry, packages):
     yield from unmet("the request", needs, lock)
 
 
-def unmet(who, needs, lock):
+def unmet(who: str, needs: Iterable[Sequence[str]], lock: Mapping[str, str]) -> Iterator[tuple[str, str]]:
     """Of some needs each that the lock does not meet, with its package."""
     for target, requirement in needs:
-        if target not in lock or not admits(requirement, read_version(lock[target])):
+        if target not in lock or not admits(requirement, precedence(lock[target])):
             yield target, f"{who} depends on {target} {requirement}; the lock has {lock.get(target, f'no {target}')}"

@@ -1,14 +1,21 @@
 """`registry log`: the commands of a journal in order, each with the time when it was accepted, where that is known."""
+from __future__ import annotations
+
 import json
 import sys
 import time
 
 from registry_service.times import UNKNOWN, now
 
+from .. import TYPE_CHECKING
 from ..catalog import commands_in
 from ..connected import PATIENCE, page_of_service
 from ..failures import Failed
 from ..session import journal_of, service_of, snapshot
+
+if TYPE_CHECKING:
+    from ..output import Output
+    from ..shapes import Given, Request
 
 PAUSE = 0.5  # seconds between two looks
 
@@ -16,10 +23,10 @@ PAUSE = 0.5  # seconds between two looks
 class File:
     """A journal's file. Known are the times of what comes while it is followed: when that is seen."""
 
-    def __init__(self, path):
+    def __init__(self, path: str) -> None:
         self.path, self.time = path, UNKNOWN
 
-    def after(self, revision):
+    def after(self, revision: int) -> list[tuple[str, bytes]]:
         commands = commands_in(snapshot(self.path))
         if len(commands) < revision:
             raise Failed(f"{self.path} is at revision {len(commands)}")
@@ -28,12 +35,13 @@ class File:
 
 
 class Service:
-    """The journal of a service, which knows the times of what it accepted itself. Where it has answered, it is waited for later on."""
+    """The journal of a service, which knows the times of what it accepted itself. Where it has answered, it is waited
+    for later on."""
 
-    def __init__(self, address):
+    def __init__(self, address: str) -> None:
         self.address, self.patience = address, 0
 
-    def after(self, revision):
+    def after(self, revision: int) -> list[tuple[str, bytes]]:
         limit = time.monotonic() + self.patience
         while True:
             try:
@@ -47,9 +55,9 @@ class Service:
         return [(at.decode(), line) for _, at, line in (it.split(b" ", 2) for it in text.splitlines())]
 
 
-def run(given, out):
+def run(given: Given, out: Output) -> None:
     service, revision = service_of(given), given.after or 0
-    source = Service(service) if service else File(journal_of(given))
+    source: File | Service = Service(service) if service else File(journal_of(given))
     while True:
         for at, line in source.after(revision):
             revision += 1
@@ -60,7 +68,7 @@ def run(given, out):
         time.sleep(PAUSE)
 
 
-def tell(revision, at, command, out):
+def tell(revision: int, at: str, command: Request, out: Output) -> None:
     needs = ["@".join(it) for it in command.get("needs", [])]
-    out.give({"revision": revision, "time": None if at == UNKNOWN else at, **command},
-             [" ".join([str(revision), at, command["op"], command["name"], command["version"], *needs])])
+    value: dict[str, object] = {"revision": revision, "time": None if at == UNKNOWN else at, **command}
+    out.give(value, [" ".join([str(revision), at, command["op"], command["name"], command["version"], *needs])])

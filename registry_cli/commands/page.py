@@ -1,16 +1,27 @@
 """`registry page`: shows the journal in a browser of this machine, until a key ends it."""
+from __future__ import annotations
+
 import sys
 
+from .. import TYPE_CHECKING
 from ..page.journal import File, Journal, Service
 from ..page.server import Server
 from ..session import journal_of, service_of
 
+if TYPE_CHECKING:
+    from ..output import Output
+    from ..page.journal import Source
+    from ..shapes import Given
+
 SECONDS = 10  # that a search may take
 
 
-def run(given, out):
+def run(given: Given, out: Output) -> None:
     service = service_of(given)
-    journal = Journal(Service(service) if service else File(journal_of(given)), given.seconds or SECONDS)
+    source: Source = File(journal_of(given))
+    if service:
+        source = Service(service)
+    journal = Journal(source, given.seconds or SECONDS)
     try:
         for it in journal.view.warnings:
             out.note(it)

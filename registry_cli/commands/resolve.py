@@ -1,6 +1,9 @@
 """`registry resolve`: versions that fit together, which may be kept in a lock file, or have to be those of one."""
+from __future__ import annotations
+
 import os
 
+from .. import TYPE_CHECKING
 from ..failures import Refused
 from ..files import write_file
 from ..locks import DEFAULT, changed, changes, counted, lock_of, lock_text, renewed
@@ -9,12 +12,20 @@ from ..output import say
 from ..requests import answered, lock_notes, refused, request_of
 from ..session import reading
 
+if TYPE_CHECKING:
+    from collections.abc import Mapping
 
-def run(given, out):
+    from ..locks import Lock
+    from ..output import Output
+    from ..shapes import Given, Reply, Request
+
+
+def run(given: Given, out: Output) -> int | None:
     if given.locked:
         given.lock = given.lock or DEFAULT
         if not os.path.lexists(given.lock):
-            raise Refused(f"{given.lock}: there is no such lock file, and --locked makes none: `registry resolve NEED .. --write {given.lock}` does")
+            remedy = f"`registry resolve NEED .. --write {given.lock}` does"
+            raise Refused(f"{given.lock}: there is no such lock file, and --locked makes none: {remedy}")
     request = request_of(given)
     before = lock_of(given.write) if given.write and os.path.exists(given.write) else None
     with reading(given) as session:
@@ -25,7 +36,7 @@ def run(given, out):
                 out.note(it)
         if "selected" not in reply:
             return refused(session, request, reply, out)
-    if given.locked:
+    if given.locked and given.lock:
         keep_to(given.lock, dict(request["lock"]), dict(reply["selected"]))
     out.give(reply, [f"{out.style(name, 'bold')} {version}" for name, version in reply["selected"]])
     if given.write:
@@ -33,16 +44,16 @@ def run(given, out):
     return None
 
 
-def keep_to(path, lock, selected):
+def keep_to(path: str, lock: Mapping[str, str], selected: Mapping[str, str]) -> None:
     """Refuses a selection that is not what the lock file has."""
     lines = changes(lock, selected)
     if lines:
         say(*lines)
-        raise Refused(f"{path} would change, which --locked forbids: `registry resolve --lock {path} --write {path}` changes it",
-                      {"changes": changed(lock, selected)})
+        remedy = f"`registry resolve --lock {path} --write {path}` changes it"
+        raise Refused(f"{path} would change, which --locked forbids: {remedy}", {"changes": changed(lock, selected)})
 
 
-def keep(path, before, request, reply, out):
+def keep(path: str, before: Lock | None, request: Request, reply: Reply, out: Output) -> None:
     """Writes the lock file, and beside it what it was made for."""
     lock = renewed(before, request, reply)
     write_file(path, lock_text(lock))

@@ -1,14 +1,21 @@
 """`registry serve`: a service for many clients, over the one journal, until a signal ends it."""
+from __future__ import annotations
+
 import asyncio
 
-from registry_service.service import Service
 from registry_service.pages import show
+from registry_service.service import Service
 
+from .. import TYPE_CHECKING
 from ..failures import FAILED, Usage
 from ..session import journal_of
 
+if TYPE_CHECKING:
+    from ..output import Output
+    from ..shapes import Served
 
-def run(given, out):
+
+def run(given: Served, out: Output) -> int | None:
     if not given.socket and given.port is None:
         raise Usage("a service listens on --socket PATH, on --port N, or on both")
     if given.connect:
@@ -18,12 +25,13 @@ def run(given, out):
     return asyncio.run(serve(journal_of(given), given, out))
 
 
-async def serve(path, given, out):
+async def serve(path: str, given: Served, out: Output) -> int | None:
     """The exit status of a service."""
     service = Service(path, given)
     with service.left:
         await service.begin()
-        names = [it if isinstance(it, str) else "{}:{}".format(*it) for it in (server.sockets[0].getsockname() for server in service.servers)]
+        addresses = (server.sockets[0].getsockname() for server in service.servers)
+        names = [it if isinstance(it, str) else "{}:{}".format(*it) for it in addresses]
         where = names[:len(names) - (given.metrics_port is not None)]
         out.give({"listening": where[0], "also": where[1:], "revision": service.keeper.revision},
                  [f"{path} is served at {' and '.join(where)} (revision {service.keeper.revision})"])

@@ -1,7 +1,13 @@
 """`registry shell`: a prompt for the other subcommands, over one session that stays open."""
-from .. import shell
+from __future__ import annotations
+
+from .. import TYPE_CHECKING, shell
 from ..session import journal_of, patience_of, service_of
 
+if TYPE_CHECKING:
+    from ..output import Output
+    from ..shapes import Given
 
-def run(given, out):
+
+def run(given: Given, out: Output) -> int:
     return shell.run(journal_of(given), service_of(given), patience_of(given))

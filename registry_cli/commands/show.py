@@ -1,8 +1,18 @@
 """`registry show`: one package, its versions, what the newest needs, and who needs it."""
+from __future__ import annotations
+
+from .. import TYPE_CHECKING
 from ..session import reading
 
+if TYPE_CHECKING:
+    from collections.abc import Iterable, Iterator, Sequence
 
-def run(given, out):
+    from ..catalog import Version
+    from ..output import Output
+    from ..shapes import Named
+
+
+def run(given: Named, out: Output) -> None:
     with reading(given) as session:
         from ..catalog import catalog_of
         catalog = catalog_of(session.journal())
@@ -12,11 +22,13 @@ def run(given, out):
     out.give({"name": given.name,
               "versions": [{"version": it.text, "yanked": it.is_yanked, "needs": it.needs} for it in versions],
               "newest": newest.text,
-              "needed_by": [{"name": name, "version": version, "requirement": requirement} for name, version, requirement in needing]},
+              "needed_by": [{"name": name, "version": version, "requirement": requirement}
+                            for name, version, requirement in needing]},
              told(given.name, versions, told_of, needing, out))
 
 
-def told(name, versions, told_of, needing, out):
+def told(name: str, versions: Iterable[Version], told_of: Version, needing: Sequence[tuple[str, str, str]],
+         out: Output) -> Iterator[str]:
     yield out.style(name, "bold")
     for it in versions:
         yield f"  {it.text}" + (out.style("  yanked", "yellow") if it.is_yanked else "")

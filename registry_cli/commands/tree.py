@@ -1,18 +1,28 @@
-"""`registry tree`: a selection as a tree of who needs whom, each package with its needs once, as `cargo tree` shows it."""
+"""`registry tree`: a selection as a tree of who needs whom, each package with its needs once, as `cargo tree` shows
+it."""
+from __future__ import annotations
+
 import sys
 
 from registryd_lines.nearest import nearest
 
+from .. import TYPE_CHECKING
 from ..failures import Refused
 from ..needs import need_of
 from ..requests import answered, needs_of, refused, request_of
 from ..session import reading
 
+if TYPE_CHECKING:
+    from collections.abc import Callable, Iterator, Mapping, Sequence
+
+    from ..output import Output
+    from ..shapes import Given
+
 UTF8 = {"tee": "├── ", "corner": "└── ", "down": "│   ", "none": "    "}
 ASCII = {"tee": "|-- ", "corner": "`-- ", "down": "|   ", "none": "    "}
 
 
-def run(given, out):
+def run(given: Given, out: Output) -> int | None:
     request = request_of(given)
     with reading(given) as session:
         reply = answered(session, request)
@@ -27,22 +37,22 @@ def run(given, out):
             near = nearest(need_of(given.invert)[0], selected)
             raise Refused(f"{given.invert} is not selected" + (f"; did you mean {near}?" if near else ""))
         roots, below = [given.invert], inverted(below)
-    out.give({"revision": reply["revision"], "roots": roots,
-              "packages": [{"name": name, "version": version, "needs": needs[name]} for name, version in selected.items()]},
+    packages = [{"name": name, "version": version, "needs": needs[name]} for name, version in selected.items()]
+    out.give({"revision": reply["revision"], "roots": roots, "packages": packages},
              drawn(roots, below, lambda name: f"{out.style(name, 'bold')} {selected[name]}", given.depth, out))
     return None
 
 
-def inverted(below):
+def inverted(below: Mapping[str, Sequence[str]]) -> dict[str, list[str]]:
     """By package those that need it."""
-    above = {name: [] for name in below}
+    above: dict[str, list[str]] = {name: [] for name in below}
     for name, targets in below.items():
         for it in targets:
             above[it].append(name)
     return above
 
 
-def strokes():
+def strokes() -> dict[str, str]:
     """What branches are drawn with: letters that standard output has."""
     try:
         "".join(UTF8.values()).encode(sys.stdout.encoding or "ascii")
@@ -51,9 +61,11 @@ def strokes():
     return UTF8
 
 
-def drawn(roots, below, label, most, out):
+def drawn(roots: Sequence[str], below: Mapping[str, Sequence[str]], label: Callable[[str], str], most: int | None,
+          out: Output) -> Iterator[str]:
     """The lines of a tree. A package whose branches were drawn already is marked, and so is one inside itself."""
-    stroke, shown = strokes(), set()
+    stroke = strokes()
+    shown: set[str] = set()
     # a line to draw: what stands before it, its own stroke, how deep it is, and the package
     waiting = [("", "", 0, name) for name in reversed(roots)]
     while waiting:

@@ -1,6 +1,9 @@
 """`registry upgrade`: takes packages off the lock, shows what would change, and writes it where that is wanted."""
+from __future__ import annotations
+
 from registryd_lines.nearest import nearest
 
+from .. import TYPE_CHECKING
 from ..failures import REFUSED, Refused
 from ..files import write_file
 from ..locks import DEFAULT, changed, changes, coloured, counted, lock_of, lock_text, renewed
@@ -9,8 +12,20 @@ from ..refusals import listed
 from ..requests import answered, lock_notes, refused, request_of
 from ..session import reading
 
+if TYPE_CHECKING:
+    from collections.abc import Collection, Mapping
+    from typing import Protocol
 
-def run(given, out):
+    from .. import shapes
+    from ..locks import Lock
+    from ..output import Output
+
+    class Given(shapes.Given, Protocol):
+        """The words of this subcommand, which takes many packages."""
+        name: list[str]
+
+
+def run(given: Given, out: Output) -> int | None:
     path = given.lock or DEFAULT
     before = lock_of(path)
     lock = before.selected
@@ -24,12 +39,13 @@ def run(given, out):
     selected = new.selected
     lines = changes(lock, selected)
     out.give(changed(lock, selected), [*coloured(lines, out), counted(lines)])
-    for it in lock_notes(path, {name: text for name, text in lock.items() if selected.get(name) == text}, packages):
+    same = {name: text for name, text in lock.items() if selected.get(name) == text}
+    for it in lock_notes(path, same, packages):
         out.note(it)
     return settled(path, before, new, given, out)
 
 
-def without(path, lock, names):
+def without(path: str, lock: Mapping[str, str], names: Collection[str]) -> dict[str, str]:
     """A lock without these packages; without any where none are named."""
     for it in names:
         if it not in lock:
@@ -38,7 +54,7 @@ def without(path, lock, names):
     return {name: text for name, text in lock.items() if names and name not in names}
 
 
-def settled(path, before, new, given, out):
+def settled(path: str, before: Lock, new: Lock, given: Given, out: Output) -> int | None:
     """Writes the change where it is wanted, and says whether it is written."""
     if new == before:
         out.note(f"nothing changes in {path}")

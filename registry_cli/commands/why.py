@@ -1,7 +1,11 @@
-"""`registry why`: in English why a request is refused, or why a version was not selected, from a derivation that is checked first."""
+"""`registry why`: in English why a request is refused, or why a version was not selected, from a derivation that is
+checked first."""
+from __future__ import annotations
+
 import math
 import sys
 import time
+from typing import TYPE_CHECKING, cast
 
 from ..cases import Case
 from ..catalog import catalog_of
@@ -16,15 +20,30 @@ from ..requests import request_of
 from ..searching import explaining
 from ..session import Session, reading
 
+if TYPE_CHECKING:
+    from collections.abc import Callable, Iterable, Iterator, Sequence
+    from typing import Protocol
 
-def run(given, out):
+    from .. import shapes
+    from ..check_derivation import Registry
+    from ..output import Output
+    from ..shapes import Object, Reply, Request
+
+    class Given(shapes.Given, Protocol):
+        """The words of this subcommand; `version` is what --not takes, a name and a version."""
+        version: list[str] | None
+
+
+def run(given: Given, out: Output) -> None:
     """Tells what is asked, and draws it; of several requests the last one."""
     check(given)
-    picture, answers, begun = None, [], None
+    picture: Callable[[float], str] | None = None
+    answers: list[dict[str, object]] = []
+    begun: float | None = None
     try:
-        for case in of_files(given) if given.asked else of_journal(given):
+        for case in of_files(given, given.asked) if given.asked else of_journal(given):
             with explaining("selected" not in case.reply, begun):
-                lines = case.why_not(*given.version) if given.version else case.answer()
+                lines = case.why_not(given.version[0], given.version[1]) if given.version else case.answer()
             answers.append({"request": case.request, "reply": case.reply, "told": lines})
             if not out.is_json:
                 out.give(None, [""] * (len(answers) > 1))
@@ -34,13 +53,14 @@ def run(given, out):
         if out.is_json:
             out.give(answers, [])
         if given.picture:
-            demand(picture, "there is nothing to draw", Refused)
+            if picture is None:
+                raise Refused("there is nothing to draw")
             write_file(given.picture, picture(math.inf if given.unfolded else MOST_SHOWN))
     except ValueError as fault:  # what the checker of derivations says of files that can't be judged
         raise Refused(str(fault)) from None
 
 
-def check(given):
+def check(given: Given) -> None:
     """Words that don't go together."""
     if given.asked and (given.need or given.lock or given.budget is not None):
         raise Usage("--asked reads requests from a file: it can't be used with needs, --lock or --budget")
@@ -54,60 +74,75 @@ def check(given):
         raise Usage(f"these are not a package name and a version: {' '.join(given.version)!r}")
 
 
-def of_journal(given):
+def of_journal(given: Given) -> Iterator[Case]:
     """The one case of needs that are asked for now."""
     request = request_of(given)
     with reading(given) as session:
         names = set(catalog_of(session.journal()).lines)
-        budget = {name: value for name, value in request.items() if name == "budget"}
+        budget: Request = {"budget": request["budget"]} if "budget" in request else {}
 
-        def registry(named):
-            return registry_in(catalog_of(session.journal()), named)  # a service may have more commands once it has replied
+        def registry(names: Iterable[str]) -> Registry:
+            # a service may have more commands once it has replied
+            return registry_in(catalog_of(session.journal()), names)
 
-        yield Case(request, None, registry, lambda it: session.ask({**it, **budget})[0], names,
-                   put=lambda question, it: question.put(session.commands(), {**it, **budget}, registry))
+        yield Case(request, None, registry, lambda it: session.ask(it | budget)[0], names,
+                   put=lambda question, it: question.put(session.commands(), it | budget, registry))
 
 
-def of_files(given):
+def of_files(given: Given, asked: str) -> Iterator[Case]:
     """The cases of a session's request lines and replies that are asked for, each at its place."""
-    lines = lines_of(given.asked)
+    lines = lines_of(asked)
     requests, replies = (lines, lines_of(given.told)) if given.told else (lines[::2], lines[1::2])
-    demand(len(requests) == len(replies), f"there are {len(requests)} request lines and {len(replies)} replies", Refused)
-    journal, commands, wanted = read_journal(given.journal) if given.journal else None, [], wanted_of(given, requests, replies)
+    counts = f"{len(requests)} request lines and {len(replies)} replies"
+    demand(len(requests) == len(replies), f"there are {counts}", Refused)
+    journal = read_journal(given.journal) if given.journal else None
+    commands: list[Object] = []
+    wanted = wanted_of(given, requests, replies)
     for number, (request, reply, registry) in enumerate(replayed(requests, replies, journal), 1):
         commands += [request] if reply.get("ok") is True else []
         if number in wanted:
-            before = commands[:] if journal is None else journal[:registry.revision]
+            before: Sequence[Object] = commands[:]
+            if journal is not None:
+                before = journal[:registry.revision]
             yield case_of(number, request, reply, registry, before)
 
 
-def lines_of(path):
+def lines_of(path: str) -> list[dict[str, object]]:
     try:
         return read_lines(path)
     except OSError as fault:
         raise Failed(f"{path}: {fault.strerror}") from None
 
 
-def case_of(number, request, reply, registry, commands):
+def case_of(number: int, request: Object, reply: Object, registry: Registry, commands: Sequence[Object]) -> Case:
     """The case of a request line and its reply, of a session that had obeyed these commands."""
-    return Case(request, reply, lambda _: registry, lambda it: asked_anew(commands, it), told=f"request {number}, ",
-                put=lambda question, it: question.put(commands, it, lambda _: registry))
+    obeyed = cast("Sequence[Request]", commands)  # and so they have the form of requests
+    return Case(request, cast("Reply", reply), lambda _: registry, lambda it: asked_anew(obeyed, it),
+                told=f"request {number}, ", put=lambda question, it: question.put(obeyed, it, lambda _: registry))
 
 
-def asked_anew(commands, request):
+def asked_anew(commands: Iterable[Request], request: Request) -> Reply:
     """The reply of a program that has obeyed these commands."""
     with Session("the session", ()) as session:
         return session.ask(*commands, request)[-1]
 
 
-def wanted_of(given, requests, replies):
+def wanted_of(given: Given, requests: Sequence[Object], replies: Sequence[Object]) -> set[int]:
     """The numbers of the requests that are told: one that is named, or the last one, or each that was refused."""
-    answered = [number for number, (request, reply) in enumerate(zip(requests, replies), 1)
-                if formed({"lock": [], "explain": True, "budget": 0, **request}, RESOLVE) and ("selected" in reply or reply.get("refused") is True)]
+    lines = enumerate(zip(requests, replies), 1)
+    answered = [number for number, (request, reply) in lines if is_answered(request, reply)]
     refused = [number for number in answered if "selected" not in replies[number - 1]]
     if given.request:
-        demand(given.request in answered, f"request {given.request} is no request with a selection or a refusal", Refused)
+        what = f"request {given.request} is no request with a selection or a refusal"
+        demand(given.request in answered, what, Refused)
         return {given.request}
     wanted = answered[-1:] if given.version or (given.picture and not refused) else refused
-    demand(wanted, "no request is refused" if answered else "there is no request with a selection or a refusal", Refused)
+    demand(wanted, "no request is refused" if answered else "there is no request with a selection or a "
+                                                            "refusal", Refused)
     return set(wanted)
+
+
+def is_answered(request: Object, reply: Object) -> bool:
+    """Whether a line is a request to select versions, and its reply a selection or a refusal."""
+    is_request = formed({"lock": [], "explain": True, "budget": 0, **request}, RESOLVE)
+    return is_request and ("selected" in reply or reply.get("refused") is True)

@@ -1,35 +1,43 @@
 """The reader of crates.io's index."""
+from __future__ import annotations
+
 import json
 import os
 from pathlib import Path
 
+from .. import TYPE_CHECKING
 from ..files import read_plain
 from .index import Crate, Index, Release, Unusable, need
 
+if TYPE_CHECKING:
+    from typing import Any
+
 
 class CratesIo(Index):
-    """A checkout of crates.io's index, or what Cargo keeps of it in a folder `.cache`, which has the same files with the lines
-    parted by zero bytes. See The Cargo Book, "Index Format"."""
+    """A checkout of crates.io's index, or what Cargo keeps of it in a folder `.cache`, which has the same files with
+    the lines parted by zero bytes. See The Cargo Book, "Index Format"."""
 
-    def __init__(self, top):
+    def __init__(self, top: str) -> None:
         super().__init__()
-        top = Path(top, ".cache") if Path(top, ".cache").is_dir() else Path(top)
-        self.top, self.files = top, {}
-        for folder, folders, files in os.walk(top):
+        self.top = Path(top, ".cache") if Path(top, ".cache").is_dir() else Path(top)
+        self.files: dict[str, Path] = {}
+        for folder, folders, files in os.walk(self.top):
             folders[:] = sorted(it for it in folders if not it.startswith("."))
             for name in sorted(files):
                 path = Path(folder, name)
-                if name == name.lower() and path == top / self.place(name) and self.enter(name):
+                if name == name.lower() and path == self.top / self.place(name) and self.enter(name):
                     self.files[name] = path
         if not self.files:
-            raise Unusable(f"{top} has no file at the place that the index of crates.io has for it, as se/rd/serde")
+            where = "at the place that the index of crates.io has for it, as se/rd/serde"
+            raise Unusable(f"{self.top} has no file {where}")
 
     @staticmethod
-    def place(name):
+    def place(name: str) -> str:
         """Where the file of a crate is: by the length of its name, or by the first letters of it."""
-        return {1: f"1/{name}", 2: f"2/{name}", 3: f"3/{name[0]}/{name}"}.get(len(name), f"{name[:2]}/{name[2:4]}/{name}")
+        short = {1: f"1/{name}", 2: f"2/{name}", 3: f"3/{name[0]}/{name}"}
+        return short.get(len(name), f"{name[:2]}/{name[2:4]}/{name}")
 
-    def crate(self, name):
+    def crate(self, name: str) -> Crate:
         crate = Crate(name)
         text = read_plain(self.files[name])
         is_cache = not text.startswith(b"{")
@@ -38,15 +46,17 @@ class CratesIo(Index):
                 self.read(number, row, crate)
         return crate
 
-    def read(self, number, row, crate):
+    def read(self, number: int, row: bytes, crate: Crate) -> None:
         try:
             entry = json.loads(row)
-            if not all(isinstance(it, str) for it in (entry["name"], entry["vers"])) or entry["name"].lower() != crate.name:
+            names = (entry["name"], entry["vers"])
+            if not all(isinstance(it, str) for it in names) or entry["name"].lower() != crate.name:
                 raise ValueError("not a line of this crate")
-            needs = [it for it in entry["deps"] if self.is_needed(it, entry["vers"], crate)]
-            if not all(isinstance(text, str) for it in needs for text in (it.get("package") or it["name"], it["req"])):
+            found = [it for it in entry["deps"] if self.is_needed(it, entry["vers"], crate)]
+            needs = [(it.get("package") or it["name"], it["req"]) for it in found]
+            if not all(isinstance(text, str) for pair in needs for text in pair):
                 raise ValueError("no dependency")
-            release = Release(entry["vers"], [(it.get("package") or it["name"], it["req"]) for it in needs], entry["yanked"] is True)
+            release = Release(entry["vers"], needs, entry["yanked"] is True)
         except (ValueError, KeyError, TypeError, AttributeError, RecursionError):
             place = f"{os.path.relpath(self.files[crate.name], self.top)}:{number}"
             crate.notes.left_out("lines that are of no known form", f"{place}: {row[:60].decode(errors='replace')}")
@@ -56,11 +66,12 @@ class CratesIo(Index):
         crate.releases.append(release)
 
     @staticmethod
-    def is_needed(it, version, crate):
+    def is_needed(dependency: dict[str, Any], version: str, crate: Crate) -> bool:
         """Whether a dependency is one of a build of the crate without features, from this registry."""
-        example = need(crate.name, version, it["name"])
-        why = ("dev dependencies" if it.get("kind") == "dev" else "optional dependencies" if it.get("optional")
-               else "dependencies from another registry" if it.get("registry") else None)
+        example = need(crate.name, version, dependency["name"])
+        why = ("dev dependencies" if dependency.get("kind") == "dev"
+               else "optional dependencies" if dependency.get("optional")
+               else "dependencies from another registry" if dependency.get("registry") else None)
         if why:
             crate.notes.left_out(why, example)
         return why is None

@@ -1,39 +1,54 @@
 """The reader of Debian's package index, and its intervals of versions as requirements."""
+from __future__ import annotations
+
 import itertools
 import math
 import re
 import subprocess
 from collections import defaultdict
 
+from .. import TYPE_CHECKING
 from .index import Crate, Index, Release, Unusable, by_precedence, need
 
+if TYPE_CHECKING:
+    from collections.abc import Sequence
+
+    from .index import Dependency
+
+    Numbers = tuple[float, ...]  # three whole ones, or BEYOND
+    Interval = tuple[Numbers, Numbers]
+    Fields = dict[str, str]  # of a package
+
 # an interval of Debian's: from a version on, below another; versions are triples of numbers
-NOTHING, BEYOND = (0, 0, 0), (math.inf, math.inf, math.inf)
+NOTHING: Numbers = (0, 0, 0)
+BEYOND: Numbers = (math.inf, math.inf, math.inf)
 
 
-def raised(numbers, place):
+def raised(numbers: Sequence[float], place: int) -> Numbers:
     """The lowest version above all that begin with the numbers up to this place."""
     return (*numbers[:place], numbers[place] + 1, 0, 0)[:3]
 
 
-def padded(numbers):
+def padded(numbers: Sequence[float]) -> Numbers:
     return (*numbers, 0, 0)[:3]
 
 
-def comparator(interval):
+def comparator(interval: Interval) -> str:
     """The shortest requirement that admits what lies in an interval."""
     low, high = interval
     # `^` fixes the numbers up to the first that is not zero, `~` the first two, `=` all three
     for sign, length in (("^", 1), ("^", 2), ("^", 3), ("~", 2), ("~", 3), ("=", 3)):
         numbers = low[:length]
-        fixed = {"^": next((place for place, it in enumerate(numbers) if it), length - 1), "~": 1, "=": 2}[sign]
+        leading = next((place for place, it in enumerate(numbers) if it), length - 1)
+        fixed = {"^": leading, "~": 1, "=": 2}[sign]
         if padded(numbers) == low and raised(numbers, fixed) == high:
             return sign + ".".join(map(str, numbers))
     bounds = [(">=", low)] * (low != NOTHING) + [("<", high)] * (high != BEYOND)
-    return ", ".join(re.sub(r"(\.0){1,2}$", "", sign + ".".join(map(str, numbers))) for sign, numbers in bounds) or "*"
+    texts = (re.sub(r"(\.0){1,2}$", "", sign + ".".join(map(str, numbers))) for sign, numbers in bounds)
+    return ", ".join(texts) or "*"
 
 
-def joined(intervals):
+def joined(intervals: Sequence[Interval]) -> Interval | None:
     """The interval that intervals make up together; none where they leave something out between them."""
     low, high = min(intervals)
     for start, end in sorted(intervals):
@@ -46,30 +61,33 @@ def joined(intervals):
 class Debian(Index):
     """The crates that Debian packages, from stanzas as `apt-cache` prints them and as a file `Packages` has them.
 
-    A package `librust-NAME-dev` provides `librust-NAME-1-dev`, `librust-NAME-1.2-dev` and `librust-NAME-1.2.3-dev`: these tell
-    the name and the version, in Debian's spelling, where `_` is `-`. See Debian's Rust policy, and debcargo, which writes them.
+    A package `librust-NAME-dev` provides `librust-NAME-1-dev`, `librust-NAME-1.2-dev` and `librust-NAME-1.2.3-dev`:
+    these tell the name and the version, in Debian's spelling, where `_` is `-`. See Debian's Rust policy, and debcargo,
+    which writes them.
     """
 
     NUMBERED = r"([a-z0-9-]+)-([0-9]+(?:\.[0-9]+){0,2})"
     ITEM = r"librust-([a-z0-9.-]+?)(?:\+[a-z0-9.+-]+)?-dev(?::[a-z0-9]+)?(?: *\((<<|<=|=|>=|>>) *([^ )]+)\))?"
 
-    def __init__(self, text):
+    def __init__(self, text: str) -> None:
         super().__init__()
-        self.packages = defaultdict(list)  # by crate: a version, and the fields of the package that has it
-        self.features = defaultdict(list)  # by crate: packages of its features
+        # by crate: a version, and the fields of the package that has it
+        self.packages: dict[str, list[tuple[str, Fields]]] = defaultdict(list)
+        self.features: dict[str, list[str]] = defaultdict(list)  # by crate: packages of its features
         stanzas = re.split(r"\n[ \t]*\n", "\n" + text)
         for stanza in (it.strip("\n") for it in stanzas if "\nPackage: librust-" in "\n" + it):
-            fields = dict(re.findall(r"(?m)^([A-Za-z0-9-]+):[ \t]*(.*(?:\n[ \t].*)*)$", stanza))
+            fields: Fields = dict(re.findall(r"(?m)^([A-Za-z0-9-]+):[ \t]*(.*(?:\n[ \t].*)*)$", stanza))
             if "+" in fields["Package"]:
                 for name in self.provided(fields, r"\+[a-z0-9.+-]+"):
                     self.features[name].append(fields["Package"])
             else:
                 self.take(fields)
         if not self.packages:
-            raise Unusable("there are no packages librust-..-dev: on a Debian machine `apt-get update` fetches the index")
+            raise Unusable("there are no packages librust-..-dev: on a Debian machine `apt-get update` fetches the "
+                           "index")
 
     @staticmethod
-    def of_this_machine():
+    def of_this_machine() -> str:
         """What apt knows of each package, in the version that it would install."""
         try:
             done = subprocess.run(["apt-cache", "dumpavail"], stdout=subprocess.PIPE, check=True)
@@ -78,13 +96,13 @@ class Debian(Index):
         return done.stdout.decode(errors="replace")
 
     @staticmethod
-    def upstream(fields):
+    def upstream(fields: Fields) -> str:
         """The version of a package without Debian's own part."""
         return re.sub(r"^[0-9]+:", "", fields.get("Version", "")).rpartition("-")[0]
 
-    def provided(self, fields, feature=""):
+    def provided(self, fields: Fields, feature: str = "") -> dict[str, str]:
         """The crates that a package provides, or has a feature of, each with its version."""
-        told = {}  # the most numbers of each version
+        told: dict[str, str] = {}  # the most numbers of each version
         for item in fields.get("Provides", "").split(","):
             found = re.fullmatch(f"librust-{self.NUMBERED}{feature}-dev", item.partition("(")[0].strip())
             if found and len(found[2]) > len(told.get(found[1], "")):
@@ -92,11 +110,12 @@ class Debian(Index):
         for name, version in list(told.items()):
             if version.count(".") < 2:  # the crate sha-1 provides librust-sha-1-dev, which is no sha of version 1
                 del told[name]
-                if self.upstream(fields).startswith(version + "."):  # web-sys has so many names that it leaves the longest out
+                # web-sys has so many names that it leaves the longest out
+                if self.upstream(fields).startswith(version + "."):
                     told[name] = self.upstream(fields)
         return told
 
-    def take(self, fields):
+    def take(self, fields: Fields) -> None:
         told = self.provided(fields)
         for name, version in told.items():
             if self.enter(name):
@@ -104,21 +123,23 @@ class Debian(Index):
         if not told:
             self.notes.left_out("packages that provide no librust-NAME-VERSION-dev", fields["Package"])
 
-    def crate(self, name):
+    def crate(self, name: str) -> Crate:
         crate = Crate(name)
         for version, fields in self.packages[name]:
-            needs = [self.need(item.strip(), version, crate) for item in fields.get("Depends", "").split(",") if item.strip()]
+            items = (item.strip() for item in fields.get("Depends", "").split(","))
+            needs = [self.need(item, version, crate) for item in items if item]
             crate.releases.append(Release(version, [it for it in needs if it]))
             if re.match(rf"{re.escape(version)}~(?!dfsg|ds)", self.upstream(fields)):
-                crate.notes.otherwise("pre-releases, which Debian provides by their numbers alone", f"{name} {self.upstream(fields)}")
+                kind = "pre-releases, which Debian provides by their numbers alone"
+                crate.notes.otherwise(kind, f"{name} {self.upstream(fields)}")
         for package in self.features[name]:
             crate.notes.left_out("packages of features, with what they need", package)
         crate.releases = by_precedence(crate.releases)
         return crate
 
-    def need(self, item, version, crate):
-        """A dependency as a crate and a requirement; none where it is on something else. Of alternatives on one crate that
-        leave nothing out between them all are taken, else the first that is there."""
+    def need(self, item: str, version: str, crate: Crate) -> Dependency | None:
+        """A dependency as a crate and a requirement; none where it is on something else. Of alternatives on one crate
+        that leave nothing out between them all are taken, else the first that is there."""
         read = [it for it in map(self.interval, item.split("|")) if it]
         if not read:
             crate.notes.left_out("dependencies on packages that are no crates", need(crate.name, version, item))
@@ -130,20 +151,20 @@ class Debian(Index):
         name, interval = next((it for it in read if self.has(it[0])), read[0])
         return name, comparator(interval)
 
-    def interval(self, item):
-        """The crate and the interval of one alternative: numbers in the package's name say with what the version begins, and
-        a bound is read without Debian's own part and without a pre-release."""
+    def interval(self, item: str) -> tuple[str, Interval] | None:
+        """The crate and the interval of one alternative: numbers in the package's name say with what the version
+        begins, and a bound is read without Debian's own part and without a pre-release."""
         found = re.fullmatch(self.ITEM, item.strip())
         if not found:
             return None
         name, low, high = found[1], NOTHING, BEYOND
         numbered = re.fullmatch(self.NUMBERED, name)
         if numbered and not self.has(name):
-            name, numbers = numbered[1], tuple(map(int, numbered[2].split(".")))
+            name, numbers = numbered[1], [int(it) for it in numbered[2].split(".")]
             low, high = padded(numbers), raised(numbers, len(numbers) - 1)
         if found[2]:
-            numbers = [int(it) for it in itertools.islice(re.findall("[0-9]+", re.split("[-~+]", found[3].partition(":")[2] or found[3])[0]), 3)]
-            bound = padded(numbers)
+            upstream = re.split("[-~+]", found[3].partition(":")[2] or found[3])[0]
+            bound = padded([int(it) for it in itertools.islice(re.findall("[0-9]+", upstream), 3)])
             low = max(low, bound) if found[2] in ("=", ">=", ">>") else low
             high = min(high, {"<<": bound}.get(found[2], raised(bound, 2))) if found[2] in ("=", "<=", "<<") else high
         return name, (low, high)

@@ -1,15 +1,27 @@
 """What the page asks for, as values for JSON."""
+from __future__ import annotations
+
 import bisect
 import re
 
 from registryd_lines.nearest import nearest
 
-from ..check_derivation import NAME, read_requirement, read_version
-from ..failures import Failure, Refused
+from .. import TYPE_CHECKING
+from ..check_derivation import NAME, precedence, read_requirement
+from ..failures import Failure, Refused, Unanswered
 from ..needs import need_of
 from ..refusals import english, unpublished
-from .journal import Unanswered
 from .refusal import refusal
+
+if TYPE_CHECKING:
+    from collections.abc import Callable, Mapping, Sequence
+
+    from ..shapes import Pairs, Request
+    from .journal import Journal, View
+
+    Query = Mapping[str, Sequence[str]]
+    Field = tuple[int, str]  # the number of a need, and its part that is at fault
+    Value = dict[str, object]  # an object for JSON
 
 MOST_FOUND = 100  # names that are told of a search at a time
 END = "\x7f"  # comes behind each letter of a name
@@ -23,87 +35,96 @@ class NotThere(Failure):
 class AtFault(Refused):
     """A request is refused for one of its needs. `field` has the number of that, and its part that is at fault."""
 
-    def __init__(self, said, field):
-        super().__init__(said)
+    def __init__(self, message: str, field: Field | None) -> None:
+        super().__init__(message)
         self.field = field
 
 
-def status(journal, _):
+def status(journal: Journal, _: Query) -> Value:
     """What is shown, after a look at the file."""
     view = journal.refresh()
-    return {"path": journal.path, "revision": view.revision, **view.counts, "fault": journal.fault, "warnings": view.warnings,
-            "seconds": journal.seconds}
+    return {"path": journal.path, "revision": view.revision, **view.counts, "fault": journal.fault,
+            "warnings": view.warnings, "seconds": journal.seconds}
 
 
-def search(journal, query):
-    """A part of the packages whose names have a text in them, those that begin with it first. What is only needed is among them."""
+def search(journal: Journal, query: Query) -> Value:
+    """A part of the packages whose names have a text in them, those that begin with it first. What is only needed is
+    among them."""
     view, text = journal.view, query.get("text", [""])[0].strip().lower()
     found, asked = with_text(view.names, text), query.get("before", ["0"])[0]
     before = int(asked) if re.fullmatch("[0-9]{1,9}", asked) and int(asked) < len(found) else 0
     near = nearest(text, view.names) if text and not found else None
-    return {"revision": view.revision, "text": text, "found": len(found), "near": near, "before": before, "most": MOST_FOUND,
-            "packages": [in_short(view, it) for it in found[before:before + MOST_FOUND]]}
+    return {"revision": view.revision, "text": text, "found": len(found), "near": near, "before": before,
+            "most": MOST_FOUND, "packages": [in_short(view, it) for it in found[before:before + MOST_FOUND]]}
 
 
-def with_text(names, text):
+def with_text(names: list[str], text: str) -> list[str]:
     """Of names in order those that have a text in them, first those that begin with it: these stand side by side."""
     first, last = (bisect.bisect_left(names, it) for it in (text, text + END))
     others = [it for it in names if text in it and not it.startswith(text)] if text else []
     return names[first:last] + others
 
 
-def in_short(view, name):
+def in_short(view: View, name: str) -> Value:
     versions = view.versions(name) if name in view.listed else []
     return {"name": name, "versions": len(versions), "newest": view.newest(name).text if versions else None}
 
 
-def package(journal, query):
+def package(journal: Journal, query: Query) -> Value:
     """A package: its versions, the newest first, with what each needs; and who needs it."""
     view, name = journal.view, query.get("name", [""])[0]
     if name not in view.names:
         raise NotThere(unpublished(name, view.names))
     versions = view.versions(name) if name in view.listed else []
     return {**in_short(view, name), "revision": view.revision, "near": None if versions else nearest(name, view.listed),
-            "versions": [{"version": it.text, "yanked": it.is_yanked, "pre_release": it.is_pre_release, "needs": it.needs} for it in versions],
-            "needed_by": [{"name": other, "version": version, "requirement": requirement} for other, version, requirement in view.needing(name)]}
+            "versions": [{"version": it.text, "yanked": it.is_yanked, "pre_release": it.is_pre_release,
+                          "needs": it.needs} for it in versions],
+            "needed_by": [{"name": other, "version": version, "requirement": requirement}
+                          for other, version, requirement in view.needing(name)]}
 
 
-def resolve(journal, query):
+def resolve(journal: Journal, query: Query) -> Value:
     """A selection, or the sentences that tell why there is none."""
     needs = [need_of(it.strip()) for it in query.get("need", []) if it.strip()]
     if not needs:
         raise Refused("name what is needed, as app@^1")
-    request = {"op": "resolve", "needs": needs, "lock": [], "explain": True}
+    request: Request = {"op": "resolve", "needs": needs, "lock": [], "explain": True}
     view, reply = journal.ask(request, query.get("page", [""])[0][:64])
     if "error" in reply:
         raise AtFault(english(request, reply, lambda: view.listed), field_of(needs, reply["error"]))
-    value = {"needs": needs, "revision": reply["revision"]}
+    value: Value = {"needs": needs, "revision": reply["revision"]}
     if "selected" in reply:
         return {**value, "selected": selection(view, dict(reply["selected"]))}
     lines = len(reply["derivation"])
     if lines > MOST_LINES:
-        raise Unanswered(f"no selection meets the request; why takes {lines:,} lines, which are more than this page tells: `registry why` tells them")
+        raise Unanswered(f"no selection meets the request; why takes {lines:,} lines, which are more than this page "
+                         f"tells: `registry why` tells them")
     return {**value, "refused": refusal(view, request, reply)}
 
 
-def field_of(needs, number):
-    """Which need a refusal by number speaks of, the first that it fits, and which part of it; none where it is of none alone."""
+def field_of(needs: Pairs, number: int) -> Field | None:
+    """Which need a refusal by number speaks of, the first that it fits, and which part of it; none where it is of none
+    alone."""
     names = [name for name, _ in needs]
-    part, is_at_fault = {1: ("name", lambda at: not NAME.fullmatch(names[at])), 3: ("requirement", lambda at: read_requirement(needs[at][1]) is None),
-                         4: ("name", lambda at: names[at] in names[:at])}.get(number, ("", lambda at: False))
-    return next(([at, part] for at in range(len(needs)) if is_at_fault(at)), None)
+    judges: dict[int, tuple[str, Callable[[int], bool]]] = {
+        1: ("name", lambda at: not NAME.fullmatch(names[at])),
+        3: ("requirement", lambda at: read_requirement(needs[at][1]) is None),
+        4: ("name", lambda at: names[at] in names[:at])}
+    part, is_at_fault = judges.get(number, ("", lambda at: False))
+    return next(((at, part) for at in range(len(needs)) if is_at_fault(at)), None)
 
 
-def selection(view, selected):
+def selection(view: View, selected: Mapping[str, str]) -> list[Value]:
     """The packages of a selection, with what each needs, and what is newer."""
-    return [{"name": name, "version": version, "needs": view.version(name, version).needs, "newest": newer(view, name, version)}
-            for name, version in selected.items()]
+    return [{"name": name, "version": version, "needs": view.version(name, version).needs,
+             "newest": newer(view, name, version)} for name, version in selected.items()]
 
 
-def newer(view, name, version):
+def newer(view: View, name: str, version: str) -> str | None:
     """The newest version of a package, where that is not the one that was selected."""
     newest = view.newest(name).text
-    return newest if read_version(newest) > read_version(version) else None
+    return newest if precedence(newest) > precedence(version) else None
 
 
-ANSWERS = {"status": status, "search": search, "package": package, "resolve": resolve}
+ANSWERS: dict[str, Callable[[Journal, Query], Value]] = {
+    "status": status, "search": search, "package": package, "resolve": resolve}

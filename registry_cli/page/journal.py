@@ -1,10 +1,27 @@
 """The journal that a page shows: as it stood when it was read last, with the program that selects from it."""
+from __future__ import annotations
+
 import os
 import threading
 
+from .. import TYPE_CHECKING
 from ..catalog import Catalog
 from ..failures import Failed, Unanswered
 from ..session import EMPTY, Reading, snapshot
+
+if TYPE_CHECKING:
+    from typing import Protocol
+
+    from ..catalog import Version
+    from ..shapes import Reply, Request
+
+    class Source(Protocol):
+        """What has a journal."""
+        path: str
+
+        def text(self) -> bytes: ...
+
+        def mark(self) -> object: ...
 
 MOST_PAGES = 1_000  # whose last search is known
 
@@ -12,13 +29,13 @@ MOST_PAGES = 1_000  # whose last search is known
 class File:
     """A journal's file that is shown."""
 
-    def __init__(self, path):
+    def __init__(self, path: str) -> None:
         self.path = path
 
-    def text(self):
+    def text(self) -> bytes:
         return snapshot(self.path)
 
-    def mark(self):
+    def mark(self) -> object:
         """What changes when the journal does."""
         try:
             found = os.stat(self.path)
@@ -30,14 +47,14 @@ class File:
 class Service:
     """The journal of a service that is shown. A search in it is none of the service's."""
 
-    def __init__(self, address):
+    def __init__(self, address: str) -> None:
         self.path = address
 
-    def text(self):
+    def text(self) -> bytes:
         from ..connected import journal_of_service
         return journal_of_service(self.path)
 
-    def mark(self):
+    def mark(self) -> object:
         from ..connected import Connected
         try:
             with Connected(self.path) as session:
@@ -49,32 +66,34 @@ class Service:
 class View(Catalog):
     """A journal as it stood at one moment."""
 
-    def __init__(self, source):
-        self.path, self.text, self.searches, self.ranks = source.path, source.text(), 0, {}
-        self.session = Reading(self.path, self.text)
+    def __init__(self, source: Source) -> None:
+        self.path, self.text, self.searches = source.path, source.text(), 0
+        self.ranks: dict[str, list[Version]] = {}
+        session = Reading(self.path, self.text)
+        self.session: Reading | None = session
         try:
             super().__init__(self.text)  # while the program loads it
             self.names = sorted(self.mentioned)
-            self.warnings = self.session.warnings
-            self.session.ask(EMPTY)  # it says where a line is at fault
+            self.warnings = session.warnings
+            session.ask(EMPTY)  # it says where a line is at fault
         except BaseException:
-            self.session.leave()
+            session.leave()
             raise
         self.counts = {"packages": len(self.listed), "versions": sum(map(len, self.listed.values())),
                        "yanked": sum(is_yanked for held in self.listed.values() for _, is_yanked in held)}
 
-    def versions(self, name):
+    def versions(self, name: str) -> list[Version]:
         if name not in self.ranks:
             self.ranks[name] = super().versions(name)
         return self.ranks[name]
 
-    def program(self):
+    def program(self) -> Reading:
         """The program over this text, begun anew where a search was ended with it."""
         if self.session is None:
             self.session = Reading(self.path, self.text)
         return self.session
 
-    def leave(self):
+    def leave(self) -> None:
         session, self.session = self.session, None
         if session:
             session.leave()
@@ -83,10 +102,10 @@ class View(Catalog):
 class Search:
     """A search that runs, for one page."""
 
-    def __init__(self, page, session):
+    def __init__(self, page: str, session: Reading) -> None:
         self.page, self.session, self.why = page, session, ""
 
-    def end(self, why):
+    def end(self, why: str) -> None:
         """Ends it, with the program: nothing else ends a search."""
         self.why = self.why or why
         self.session.process.kill()
@@ -95,16 +114,19 @@ class Search:
 class Journal:
     """What stands in a journal's file, for a server whose threads ask at once."""
 
-    def __init__(self, source, seconds):
+    def __init__(self, source: Source, seconds: float) -> None:
         self.source, self.path, self.seconds = source, source.path, seconds
         # of what is held; of loading; of searching, one at a time
         self.lock, self.loading, self.turn = threading.Lock(), threading.Lock(), threading.Lock()
-        self.fault, self.running, self.last, self.count = "", None, {}, 0
+        self.fault, self.count = "", 0
+        self.running: Search | None = None
+        self.last: dict[str, int] = {}  # by page its last search
         self.mark = source.mark()
         self.view = View(source)
 
-    def refresh(self):
-        """Reads the journal again where it has changed; answers what is shown then. What can't be read leaves that as it was."""
+    def refresh(self) -> View:
+        """Reads the journal again where it has changed; answers what is shown then. What can't be read leaves that as
+        it was."""
         mark = self.source.mark()
         if mark != self.mark and self.loading.acquire(blocking=False):
             try:
@@ -117,7 +139,7 @@ class Journal:
                 self.loading.release()
         return self.view
 
-    def show(self, view):
+    def show(self, view: View) -> None:
         """Shows this from now on. A search in what was shown before ends in that."""
         with self.lock:
             old, self.view = self.view, view
@@ -127,8 +149,9 @@ class Journal:
 
     # ---- searches
 
-    def ask(self, request, page=""):
-        """What is shown, and the reply to a request. A page has one search at a time: its next one ends it. Others wait their turn."""
+    def ask(self, request: Request, page: str = "") -> tuple[View, Reply]:
+        """What is shown, and the reply to a request. A page has one search at a time: its next one ends it. Others wait
+        their turn."""
         with self.lock:
             self.count += 1
             number = self.count
@@ -152,11 +175,12 @@ class Journal:
                 if is_old:
                     view.leave()
 
-    def searched(self, view, request, page):
+    def searched(self, view: View, request: Request, page: str) -> Reply:
         """The reply of the program, which has some seconds for it."""
         search = Search(page, view.program())
         limit = f"{self.seconds:g} second{'s' * (self.seconds != 1)}"
-        timer = threading.Timer(self.seconds, search.end, [f"no answer was found in {limit}, and the search was ended"])
+        told = f"no answer was found in {limit}, and the search was ended"
+        timer = threading.Timer(self.seconds, search.end, [told])
         with self.lock:
             self.running = search
         timer.start()
@@ -175,5 +199,5 @@ class Journal:
             if search.why:
                 view.leave()
 
-    def leave(self):
+    def leave(self) -> None:
         self.view.leave()

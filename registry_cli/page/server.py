@@ -1,5 +1,7 @@
-"""Serves the page to this machine alone. It answers GET and HEAD for a fixed set of addresses, and only who asks for this host:
-a page from elsewhere whose name is made to lead here is refused."""
+"""Serves the page to this machine alone. It answers GET and HEAD for a fixed set of addresses, and only who asks for
+this host: a page from elsewhere whose name is made to lead here is refused."""
+from __future__ import annotations
+
 import json
 import os
 import sys
@@ -7,23 +9,33 @@ from http import HTTPStatus
 from http.server import BaseHTTPRequestHandler, ThreadingHTTPServer
 from urllib.parse import parse_qs, urlsplit
 
-from ..failures import Failed, Failure, Refused, told
+from .. import TYPE_CHECKING
+from ..failures import Failed, Failure, Refused, Unanswered, told
 from .answers import ANSWERS, AtFault, NotThere
-from .journal import Unanswered
+
+if TYPE_CHECKING:
+    from collections.abc import Callable
+    from typing import Any
+
+    from .answers import Query, Value
+    from .journal import Journal
 
 HOST = "127.0.0.1"
 FILES = os.path.join(os.path.dirname(os.path.abspath(__file__)), "files")
 KINDS = {".html": "text/html", ".css": "text/css", ".js": "text/javascript", ".svg": "image/svg+xml"}
-STATUSES = {Refused: HTTPStatus.BAD_REQUEST, AtFault: HTTPStatus.BAD_REQUEST, NotThere: HTTPStatus.NOT_FOUND, Unanswered: HTTPStatus.SERVICE_UNAVAILABLE}
+STATUSES = {Refused: HTTPStatus.BAD_REQUEST, AtFault: HTTPStatus.BAD_REQUEST, NotThere: HTTPStatus.NOT_FOUND,
+            Unanswered: HTTPStatus.SERVICE_UNAVAILABLE}
 PATIENCE = 30  # seconds for a request to come
 # all that the page loads is from here, and no text becomes HTML or a script
-POLICY = ("default-src 'none'; script-src 'self'; style-src 'self'; img-src 'self'; connect-src 'self'; base-uri 'none'; form-action 'none'; "
-          "frame-ancestors 'none'; require-trusted-types-for 'script'; trusted-types 'none'")
-HEADERS = {"Content-Security-Policy": POLICY, "X-Content-Type-Options": "nosniff", "X-Frame-Options": "DENY", "Referrer-Policy": "no-referrer",
-           "Cross-Origin-Resource-Policy": "same-origin", "Cross-Origin-Opener-Policy": "same-origin", "Cache-Control": "no-store"}
+POLICY = ("default-src 'none'; script-src 'self'; style-src 'self'; img-src 'self'; connect-src 'self'; base-uri "
+          "'none'; form-action 'none'; frame-ancestors 'none'; require-trusted-types-for 'script'; trusted-types "
+          "'none'")
+HEADERS = {"Content-Security-Policy": POLICY, "X-Content-Type-Options": "nosniff", "X-Frame-Options": "DENY",
+           "Referrer-Policy": "no-referrer", "Cross-Origin-Resource-Policy": "same-origin",
+           "Cross-Origin-Opener-Policy": "same-origin", "Cache-Control": "no-store"}
 
 
-def files():
+def files() -> dict[str, tuple[bytes, str]]:
     """What the browser may load, by address: each file with its kind."""
     found = {}
     for name in sorted(os.listdir(FILES)):
@@ -37,10 +49,11 @@ def files():
 
 class Handler(BaseHTTPRequestHandler):
     """One request."""
+    server: Server
     server_version, sys_version, timeout = "registry", "", PATIENCE
     error_message_format, error_content_type = "%(code)d %(message)s\n", "text/plain; charset=utf-8"
 
-    def do_GET(self):
+    def do_GET(self) -> None:
         refused = self.refused()
         if refused:
             self.send_error(*refused)
@@ -56,12 +69,12 @@ class Handler(BaseHTTPRequestHandler):
 
     do_HEAD = do_GET
 
-    def not_allowed(self):
+    def not_allowed(self) -> None:
         self.send_error(HTTPStatus.METHOD_NOT_ALLOWED)
 
     do_POST = do_PUT = do_PATCH = do_DELETE = do_OPTIONS = do_TRACE = do_CONNECT = not_allowed
 
-    def refused(self):
+    def refused(self) -> tuple[HTTPStatus, str] | None:
         """The status that a request is refused with, and why; none where it is not."""
         hosts = [it.strip().lower() for it in self.headers.get_all("Host", [])]
         if len(hosts) != 1 or hosts[0] not in self.server.hosts or not self.path.startswith("/"):
@@ -72,17 +85,19 @@ class Handler(BaseHTTPRequestHandler):
             return HTTPStatus.BAD_REQUEST, "A request here has no contents"
         return None
 
-    def answered(self, answer, query):
+    def answered(self, answer: Callable[[Journal, Query], Value], query: str) -> tuple[HTTPStatus, bytes, str]:
         """The status, the JSON and its kind."""
         try:
-            status, value = HTTPStatus.OK, answer(self.server.journal, parse_qs(query, max_num_fields=100))
+            value = answer(self.server.journal, parse_qs(query, max_num_fields=100))
+            status = HTTPStatus.OK
         except Failure as fault:
-            status, value = STATUSES.get(type(fault), HTTPStatus.INTERNAL_SERVER_ERROR), {"error": str(fault), "field": getattr(fault, "field", None)}
+            status = STATUSES.get(type(fault), HTTPStatus.INTERNAL_SERVER_ERROR)
+            value = {"error": str(fault), "field": getattr(fault, "field", None)}
         except ValueError as fault:  # too many fields, or what the checker of derivations says
             status, value = HTTPStatus.BAD_REQUEST, {"error": str(fault)}
         return status, json.dumps(value, separators=(",", ":")).encode(), "application/json"
 
-    def give(self, status, text, kind):
+    def give(self, status: HTTPStatus, text: bytes, kind: str) -> None:
         self.send_response(status)
         self.send_header("Content-Type", kind + ("" if kind == "image/svg+xml" else "; charset=utf-8"))
         self.send_header("Content-Length", str(len(text)))
@@ -90,14 +105,14 @@ class Handler(BaseHTTPRequestHandler):
         if self.command != "HEAD":
             self.wfile.write(text)
 
-    def end_headers(self):
+    def end_headers(self) -> None:
         for name, value in HEADERS.items():
             self.send_header(name, value)
         if getattr(self, "command", None) not in ("GET", "HEAD"):
             self.send_header("Allow", "GET, HEAD")
         super().end_headers()
 
-    def log_message(self, *_):
+    def log_message(self, *_: object) -> None:
         """Says nothing of requests."""
 
 
@@ -105,20 +120,21 @@ class Server(ThreadingHTTPServer):
     """The page of a journal, at a port of this machine; one that is free where it is 0."""
     daemon_threads, allow_reuse_address = True, True
 
-    def __init__(self, journal, port):
+    def __init__(self, journal: Journal, port: int) -> None:
         try:
             super().__init__((HOST, port), Handler)
         except OSError as fault:
-            raise Failed(f"port {port} can't be taken: {told(fault)}; without --port one is picked that is free") from None
+            reason = f"port {port} can't be taken: {told(fault)}"
+            raise Failed(f"{reason}; without --port one is picked that is free") from None
         self.journal, self.files, self.port = journal, files(), self.server_address[1]
         names = (HOST, "localhost")
         self.hosts = {f"{it}:{self.port}" for it in names} | (set(names) if self.port == 80 else set())
 
     @property
-    def address(self):
+    def address(self) -> str:
         return f"http://{HOST}:{self.port}/"
 
-    def handle_error(self, request, client_address):
+    def handle_error(self, request: Any, client_address: Any) -> None:
         """A browser that leaves before it has its answer is no fault; any other is told."""
         if not isinstance(sys.exc_info()[1], (ConnectionError, TimeoutError)):
             super().handle_error(request, client_address)

@@ -1,0 +1,151 @@
+"""The shapes of what goes from module to module, for annotations alone: nothing loads this when the command runs."""
+from __future__ import annotations
+
+from collections.abc import Callable, Iterable, Iterator, Mapping, Sequence
+from types import TracebackType
+from typing import Any, Protocol, TypedDict, TypeVar
+
+from .check_derivation import Registry
+
+Pairs = list[list[str]]  # of names with requirements or versions, as lines have them
+Listed = tuple[str, bool]  # a version, and whether it is yanked
+Object = Mapping[str, Any]  # an object of JSON that nobody has judged
+RegistryOf = Callable[[Iterable[str]], Registry]  # with the releases of these packages
+
+
+# ---- lines
+
+class Cause(TypedDict, total=False):
+    """A cause in a line of a derivation: another line by its number, else a fact with the members of its kind."""
+    line: int
+    fact: str
+    index: int
+    name: str
+    need: str
+    target: str
+    versions: list[int]
+    within: list[int]
+
+
+class Row(TypedDict):
+    """A line of a derivation."""
+    causes: list[Cause]
+    conclusion: list[list[Any]]  # each a name, whether its version is among some, and the ordinals of these
+    pivot: str
+
+
+class Request(TypedDict, total=False):
+    """A request line, which is a command where it changes the registry."""
+    op: str
+    name: str
+    version: str
+    needs: Pairs
+    lock: Pairs
+    explain: bool
+    budget: int
+    derivation: list[Row]
+
+
+class Reply(TypedDict, total=False):
+    """A reply line."""
+    ok: bool
+    refused: bool
+    revision: int
+    error: int
+    name: str
+    reason: str
+    selected: Pairs
+    derivation: list[Row]
+    packages: list[tuple[str, list[Listed]]]
+
+
+# ---- sessions
+
+Self = TypeVar("Self")
+
+
+class Asking(Protocol):
+    """What answers request lines, until it is left."""
+
+    def ask(self, *requests: Request) -> list[Reply]: ...
+
+    def each(self, requests: Sequence[Request]) -> Iterator[Reply]: ...
+
+    def __enter__(self: Self) -> Self: ...
+
+    def __exit__(self, kind: type[BaseException] | None, fault: BaseException | None,
+                 trace: TracebackType | None) -> None: ...
+
+
+class Reading(Asking, Protocol):
+    """What tells its journal too."""
+
+    def journal(self) -> bytes: ...
+
+    def commands(self) -> list[Request]: ...
+
+
+# ---- command lines
+
+class Given(Protocol):
+    """The words of a command line when they were read: those of `COMMON`, and of others what one subcommand or more
+    has."""
+    subcommand: str
+    journal: str | None
+    connect: str | None
+    json: bool
+    color: str | None
+    quiet: bool
+    verbose: bool
+    wait: int | None
+    limit: int
+    need: list[str]
+    lock: str | None
+    locked: bool
+    write: str | None
+    budget: int | None
+    exit_status: bool
+    file: str
+    dir: str
+    index: str | None
+    newest: int | None
+    lines: bool
+    ask: bool
+    both_spellings: bool
+    text: str
+    invert: str | None
+    depth: int | None
+    old: str
+    new: str
+    output: str | None
+    yes: bool
+    after: int | None
+    follow: bool
+    port: int | None
+    seconds: int | None
+    asked: str | None
+    told: str | None
+    request: int | None
+    picture: str | None
+    full: bool
+    unfolded: bool
+
+
+class Named(Given, Protocol):
+    """The words of a subcommand about a package, and a version of it."""
+    name: str
+    version: str
+
+
+class Served(Given, Protocol):
+    """The words of `serve`."""
+    socket: str | None
+    mode: str
+    group: str | None
+    readers: int
+    seconds: int
+    workers: int
+    clients: int
+    log: str | None
+    metrics_port: int | None
+    page_port: int | None
