@@ -1,14 +1,22 @@
-"""A row of write-once cells in etcd: the entry at place 1 stands in the first, and the cell at place 0 says that there is a row.
+"""A row of write-once cells in etcd: the entry at place 1 stands in the first, and the cell at place 0 says that there
+is a row.
 
-Two transactions write. `Cells.put` makes the cells behind one that is there, where none is; `Snapshots.renew` takes away
-those before one that stays. So the cells that stand are always those from one place to the last, without a hole, and a writer that was
-held up, however long, can't put anything in front of that or between."""
+Two transactions write. `Cells.put` makes the cells behind one that is there, where none is; `Snapshots.renew` takes
+away those before one that stays. So the cells that stand are always those from one place to the last, without a hole,
+and a writer that was held up, however long, can't put anything in front of that or between."""
+from __future__ import annotations
+
 import json
 from base64 import b64decode
-from typing import NamedTuple
+from typing import TYPE_CHECKING, NamedTuple
 
 from registry_cli.check_derivation import COMMANDS, formed
 from registry_etcd.gateway import Fault, Unanswered, encoded, understood
+
+if TYPE_CHECKING:
+    from collections.abc import Iterator, Sequence
+
+    from registry_etcd.gateway import Gateway, Message
 
 FORMS = {form["op"]: form for form in COMMANDS}
 PAGE = 1024  # cells that one read brings at most
@@ -20,7 +28,8 @@ class Behind(Exception):
 
 
 class Entry(NamedTuple):
-    """A command, as the journal's file writes it, with who put it there; the command is none where nobody can read it."""
+    """A command, as the journal's file writes it, with who put it there; the command is none where nobody can read
+    it."""
     command: bytes | None
     seat: int
     writer: str
@@ -29,31 +38,32 @@ class Entry(NamedTuple):
 
 class Cell(NamedTuple):
     place: int
-    stamp: int  # etcd's revision when it was put
-    entry: Entry
+    stamp: int | None  # etcd's revision when it was put; of the last one that was read it may be unknown
+    entry: Entry | None  # none of the last one that was read, where it does not count any more
 
 
-def command_line(value):
+def command_line(value: object) -> bytes | None:
     """The line that a journal's file has for a command; none where a JSON value has not the form of one."""
     op = value.get("op") if isinstance(value, dict) else None
     form = FORMS.get(op) if isinstance(op, str) else None
     return compact(value) if form and formed(value, form) else None
 
 
-def compact(value):
+def compact(value: object) -> bytes:
     return json.dumps(value, sort_keys=True, separators=(",", ":")).encode()
 
 
-def entry_bytes(entry):
-    said = {"seat": entry.seat, "serial": entry.serial, "writer": entry.writer, "command": json.loads(entry.command)}
-    return compact(said)
+def entry_bytes(entry: Entry) -> bytes:
+    assert entry.command is not None
+    command = json.loads(entry.command)
+    return compact({"seat": entry.seat, "serial": entry.serial, "writer": entry.writer, "command": command})
 
 
-def read_entry(data):
+def read_entry(data: bytes) -> Entry:
     """What a cell says. One that no front has written says nothing, on each replica alike."""
     try:
         said = json.loads(data.decode())
-        command, seat, writer, serial = (said[it] for it in ("command", "seat", "writer", "serial"))
+        command, seat, writer, serial = (said[name] for name in ("command", "seat", "writer", "serial"))
         if formed([seat, serial], [int]) and isinstance(writer, str):
             return Entry(command_line(command), seat, writer, serial)
     except (ValueError, KeyError, TypeError, RecursionError):
@@ -64,55 +74,59 @@ def read_entry(data):
 class Cells:
     """The cells under one prefix."""
 
-    def __init__(self, gateway, prefix):
+    def __init__(self, gateway: Gateway, prefix: str) -> None:
         self.gateway, self.prefix = gateway, prefix
 
-    def elsewhere(self):
+    def elsewhere(self) -> Cells:
         """The same cells, over a connection of its own."""
         return Cells(self.gateway.another(), self.prefix)
 
-    def key(self, place):
+    def key(self, place: int) -> str:
         return encoded(f"{self.prefix}/cells/{place:08}".encode())
 
-    def bounds(self, place):
+    def bounds(self, place: int) -> Message:
         """The range of the keys from a place on."""
         return {"key": self.key(place), "range_end": encoded(f"{self.prefix}/cells0".encode())}
 
-    def page(self, last):
+    def page(self, last: Cell) -> Message:
         """The range of a cell and of those behind it, as many as a page has; etcd gives them in order of their keys."""
         return {**self.bounds(last.place), "limit": PAGE + 1}
 
-    def place(self, found):
+    def place(self, found: Message) -> tuple[int, int]:
         """The place and the stamp of a cell as etcd tells it."""
         name = b64decode(found["key"]).rsplit(b"/", 1)[1]
         if len(name) != 8 or not name.isdigit():
-            raise Fault(f"no cell has the key {name}")
+            raise Fault(f"no cell has the key {name!r}")
         place, stamp = int(name), int(found["mod_revision"])
         if found["version"] != "1":
             raise Fault(f"cell {place} was written twice")
         return place, stamp
 
-    def cell(self, found):
+    def cell(self, found: Message) -> Cell:
         return Cell(*self.place(found), read_entry(b64decode(found.get("value", ""))))
 
     @understood()
-    def behind(self, last, told):
+    def behind(self, last: Cell, told: Message) -> list[Cell]:
         """The cells of a page behind the last one that was read, which has to begin it."""
         first, *more = told.get("kvs") or [None]
-        place, stamp = self.place(first) if first else (None, None)
+        if not first:
+            raise Behind
+        place, stamp = self.place(first)
         if place != last.place:
             raise Behind
         if last.stamp not in (None, stamp):
             raise Fault(f"cell {place} is another than it was")
-        found = [self.cell(it) for it in more]
-        for it in found:
-            if it.place != place + 1 or it.stamp < stamp:
-                raise Fault(f"cell {it.place} does not follow on cell {place}")
-            place, stamp = it.place, it.stamp
+        found = [self.cell(one) for one in more]
+        for cell in found:
+            assert cell.stamp is not None
+            if cell.place != place + 1 or cell.stamp < stamp:
+                raise Fault(f"cell {cell.place} does not follow on cell {place}")
+            place, stamp = cell.place, cell.stamp
         return found
 
-    def pages(self, last):
-        """The cells behind one, page by page: all that etcd held when this call began, since its reads are linearizable."""
+    def pages(self, last: Cell) -> Iterator[list[Cell]]:
+        """The cells behind one, page by page: all that etcd held when this call began, since its reads are
+        linearizable."""
         more = True
         while more:
             told = self.gateway.insist("/v3/kv/range", self.page(last))
@@ -121,13 +135,14 @@ class Cells:
             last = found[-1] if found else last
 
     @understood()
-    def put(self, last, entries):
-        """Tries to put entries into the cells behind one. Answers the cells that stand there now, as far as it was told: the
-        own ones, those of others, or none, and then it is open what became of it."""
+    def put(self, last: Cell, entries: Sequence[Entry]) -> list[Cell]:
+        """Tries to put entries into the cells behind one. Answers the cells that stand there now, as far as it was
+        told: the own ones, those of others, or none, and then it is open what became of it."""
         writes = [{"request_put": {"key": self.key(place), "value": encoded(entry_bytes(entry))}}
                   for place, entry in enumerate(entries, last.place + 1)]
-        asked = {"compare": [{"key": self.key(last.place), "target": "CREATE", "result": "GREATER", "create_revision": 0},
-                             {"key": self.key(last.place + 1), "target": "CREATE", "result": "EQUAL", "create_revision": 0}],
+        created: Message = {"target": "CREATE", "create_revision": 0}
+        asked = {"compare": [{"key": self.key(last.place), "result": "GREATER", **created},
+                             {"key": self.key(last.place + 1), "result": "EQUAL", **created}],
                  "success": writes, "failure": [{"request_range": self.page(last)}]}
         try:
             told = self.gateway.once("/v3/kv/txn", asked)
@@ -138,14 +153,14 @@ class Cells:
             return [Cell(place, stamp, entry) for place, entry in enumerate(entries, last.place + 1)]
         return self.behind(last, told["responses"][0]["response_range"])
 
-    def watch(self):
+    def watch(self) -> Iterator[list[Cell]]:
         """What is put into cells, as it comes; first of all an empty list, once nothing more is missed."""
         for told in self.gateway.stream("/v3/watch", {"create_request": self.bounds(0)}):
             yield self.news(told)
 
     @understood()
-    def news(self, told):
+    def news(self, told: Message) -> list[Cell]:
         """The cells that were put by what a watch tells."""
         if told.get("canceled"):
             raise Unanswered("the watch has ended")
-        return [self.cell(it["kv"]) for it in told.get("events", []) if it.get("type", "PUT") == "PUT"]
+        return [self.cell(event["kv"]) for event in told.get("events", []) if event.get("type", "PUT") == "PUT"]

@@ -1,4 +1,6 @@
 """etcd's JSON gateway: what is asked of one member of several, over HTTP."""
+from __future__ import annotations
+
 import base64
 import contextlib
 import http.client
@@ -7,7 +9,10 @@ import re
 import socket
 import ssl
 import time
-from typing import NamedTuple
+from collections.abc import Iterator, Sequence
+from typing import Any, NamedTuple, NoReturn
+
+Message = dict[str, Any]  # an object of JSON, as etcd takes and gives it
 
 FINAL = {3, 7, 9, 11, 12, 16}  # codes of gRPC that another try, or another member, would answer alike
 FULL = "database space exceeded"
@@ -37,16 +42,16 @@ ADDRESS = re.compile(r"(?:(https?)://)?(?:\[([0-9A-Fa-f:.]+(?:%[\w.-]+)?)\]|([\w
 LEAST_WAIT = 0.001  # since 0 would mean not to wait at all
 
 
-def endpoints(text, is_secure=False):
-    """The endpoints that a word names, with commas between them: addresses of http or https, or as etcdctl takes them `HOST:PORT`, which
-    are asked over TLS where that is said. Raises `ValueError` where one can't be an address."""
+def endpoints(text: str, is_secure: bool = False) -> list[Endpoint]:
+    """The endpoints that a word names, with commas between them: addresses of http or https, or as etcdctl takes them
+    `HOST:PORT`, which are asked over TLS where that is said. Raises `ValueError` where one can't be an address."""
     return [endpoint(word.strip(), is_secure) for word in text.split(",")]
 
 
-def endpoint(word, is_secure):
+def endpoint(word: str, is_secure: bool) -> Endpoint:
     found = ADDRESS.fullmatch(word)
-    scheme, in_brackets, name, port = found.groups(default="") if found else [""] * 4
-    host, port = in_brackets or name, int(port or PORT)
+    scheme, in_brackets, name, digits = found.groups(default="") if found else [""] * 4
+    host, port = in_brackets or name, int(digits or PORT)
     try:
         is_address = host.encode("idna") and 0 < port < 65_536
     except UnicodeError:
@@ -56,12 +61,12 @@ def endpoint(word, is_secure):
     return Endpoint(scheme == "https" if scheme else is_secure, host, port)
 
 
-def encoded(data):
+def encoded(data: bytes) -> str:
     return base64.b64encode(data).decode()
 
 
 @contextlib.contextmanager
-def understood():
+def understood() -> Iterator[None]:
     """Tells that an answer has not the form that etcd's documents say."""
     try:
         yield
@@ -69,7 +74,7 @@ def understood():
         raise Fault(f"etcd's answer does not have the form of one: {wrong!r}") from wrong
 
 
-def tls_context(cacert, cert, key):
+def tls_context(cacert: str | None, cert: str | None, key: str | None) -> ssl.SSLContext:
     """What a connection of https trusts and shows; the arguments are names of files."""
     with told_of(cacert):
         context = ssl.create_default_context(cafile=cacert)
@@ -80,32 +85,33 @@ def tls_context(cacert, cert, key):
 
 
 @contextlib.contextmanager
-def told_of(files):
+def told_of(files: str | None) -> Iterator[None]:
     """Tells of which files a fault is: ssl doesn't."""
     try:
         yield
     except (OSError, ValueError) as fault:
-        raise Fault(f"{files}: {fault.strerror or fault if isinstance(fault, OSError) else fault}") from fault
+        why = fault.strerror if isinstance(fault, OSError) else None
+        raise Fault(f"{files}: {why or fault}") from fault
 
 
-def no_password():
+def no_password() -> NoReturn:
     raise ValueError("the key has a password, and a front asks for none")
 
 
-class InOnePiece:
+class InOnePiece(http.client.HTTPConnection):
     """A connection that sends a request's head and its body together."""
     unsent = b""
 
-    def send(self, data):
+    def send(self, data: bytes) -> None:  # type: ignore[override]  # it is given bytes alone
         self.unsent += data
 
-    def getresponse(self):
+    def getresponse(self) -> http.client.HTTPResponse:
         data, self.unsent = self.unsent, b""
         super().send(data)
         return super().getresponse()
 
 
-class Plain(InOnePiece, http.client.HTTPConnection):
+class Plain(InOnePiece):
     """A connection of http."""
 
 
@@ -116,39 +122,41 @@ class Secure(InOnePiece, http.client.HTTPSConnection):
 class Gateway:
     """One connection, to the member that answered last."""
 
-    def __init__(self, members, context=None, timeout=3.0, patience=60.0):
+    def __init__(self, members: Sequence[Endpoint], context: ssl.SSLContext | None = None, timeout: float = 3.0,
+                 patience: float = 60.0) -> None:
         self.members, self.context, self.timeout, self.patience = members, context, timeout, patience
         self.turn = 0  # which member is asked
-        self.connection = None
-        self.silent_since = None  # when the first was asked of the requests since the last answer
+        self.connection: Plain | Secure | None = None
+        self.silent_since: float | None = None  # when the first was asked of the requests since the last answer
 
-    def another(self):
+    def another(self) -> Gateway:
         """The same members, asked over a connection of its own."""
         return Gateway(self.members, self.context, self.timeout, self.patience)
 
-    def connect(self):
+    def connect(self) -> Plain | Secure:
         member = self.members[self.turn % len(self.members)]
         if member.is_secure:
             return Secure(member.host, member.port, context=self.context or ssl.create_default_context())
         return Plain(member.host, member.port)
 
-    def leave(self):
+    def leave(self) -> None:
         """Lets the connection go; the next member is asked from now on."""
         if self.connection:
             self.connection.close()
         self.connection, self.turn = None, self.turn + 1
 
-    def wait_until(self, end):
+    def wait_until(self, end: float) -> None:
         """Has the connection wait no longer than until then for what comes next."""
+        assert self.connection
         self.connection.timeout = max(end - time.monotonic(), LEAST_WAIT)
         if self.connection.sock:
             self.connection.sock.settimeout(self.connection.timeout)
 
-    def count_anew(self):
+    def count_anew(self) -> None:
         """Has the patience begin with what is asked next, whatever was asked in vain before."""
         self.silent_since = None
 
-    def post(self, path, asked, end):
+    def post(self, path: str, asked: Message, end: float) -> http.client.HTTPResponse:
         """Sends one request, and answers the response, whose status is 200."""
         try:
             self.connection = self.connection or self.connect()
@@ -164,7 +172,7 @@ class Gateway:
         self.leave()
         raise refusal(told)
 
-    def once(self, path, asked):
+    def once(self, path: str, asked: Message) -> Message:
         """Asks one member, once."""
         begun = time.monotonic()
         if self.silent_since is None:
@@ -183,24 +191,28 @@ class Gateway:
         self.silent_since = None
         return said
 
-    def insist(self, path, asked):
-        """Asks until a member answers: for what may be done twice. What was asked before in vain counts as waiting too."""
-        pause, why = 0.01, None
+    def insist(self, path: str, asked: Message) -> Message:
+        """Asks until a member answers: for what may be done twice. What was asked before in vain counts as waiting
+        too."""
+        pause = 0.01
+        why: Unanswered | None = None
         while True:
             try:
                 return self.once(path, asked)
             except Unanswered as lost:
                 why = why or lost  # the last try has hardly any time
+                assert self.silent_since is not None
                 left = self.silent_since + self.patience - time.monotonic()
                 if left <= 0:
                     raise Fault(f"no member of etcd answers, for {self.patience:g} seconds now: {why}") from lost
                 time.sleep(min(pause, left))
                 pause = min(pause * 2, 0.5)
 
-    def stream(self, path, asked):
+    def stream(self, path: str, asked: Message) -> Iterator[Message]:
         """The results that one member sends, as they come; ends by `Unanswered`."""
         response = self.post(path, asked, time.monotonic() + self.timeout)
         try:
+            assert self.connection
             # a silent stream is no lost one, so the system asks whether the other side is there
             self.connection.sock.settimeout(None)
             keep_alive(self.connection.sock)
@@ -215,18 +227,18 @@ class Gateway:
     # ---- room
 
     @understood()
-    def full_members(self):
+    def full_members(self) -> list[str]:
         """The members that hold as much as they may. Until their alarms are taken back nothing can be put."""
         alarms = self.insist("/v3/maintenance/alarm", {"action": "GET"}).get("alarms", [])
-        return [it["memberID"] for it in alarms if it["alarm"] == "NOSPACE"]
+        return [alarm["memberID"] for alarm in alarms if alarm["alarm"] == "NOSPACE"]
 
-    def demand_room(self):
+    def demand_room(self) -> None:
         if self.full_members():
             raise Full("etcd holds as much as it may")
 
-    def give_back(self, revision):
-        """Has the members forget what is past at a revision, give back the room of that, and take their alarms back. One that doesn't
-        answer is passed over."""
+    def give_back(self, revision: int) -> None:
+        """Has the members forget what is past at a revision, give back the room of that, and take their alarms back.
+        One that doesn't answer is passed over."""
         every = self.patient(self.members)
         with contextlib.suppress(Fault):  # it was forgotten before
             every.insist("/v3/kv/compaction", {"revision": revision, "physical": True})
@@ -239,12 +251,12 @@ class Gateway:
         for number in self.full_members():
             self.insist("/v3/maintenance/alarm", {"action": "DEACTIVATE", "memberID": number, "alarm": "NOSPACE"})
 
-    def patient(self, members):
+    def patient(self, members: Sequence[Endpoint]) -> Gateway:
         """Some members, asked over a connection of its own for what takes longer than other answers."""
         return Gateway(members, self.context, self.patience, self.patience)
 
 
-def keep_alive(connection):
+def keep_alive(connection: socket.socket) -> None:
     """Has a connection end some ten seconds after the other side is out of reach."""
     connection.setsockopt(socket.SOL_SOCKET, socket.SO_KEEPALIVE, 1)
     for name, value in (("TCP_KEEPIDLE", 4), ("TCP_KEEPINTVL", 2), ("TCP_KEEPCNT", 3)):
@@ -252,7 +264,7 @@ def keep_alive(connection):
             connection.setsockopt(socket.IPPROTO_TCP, getattr(socket, name), value)
 
 
-def refusal(told):
+def refusal(told: bytes) -> Unanswered | Fault:
     """What a response of another status than 200 means."""
     try:
         said = json.loads(told)

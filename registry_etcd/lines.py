@@ -1,10 +1,19 @@
 """The request lines of a front: read by a thread of their own, and handed over as they came together."""
+from __future__ import annotations
+
 import itertools
 import json
+from typing import TYPE_CHECKING
 
 from registry_cli.limits import MOST_LINE_BYTES
 from registry_etcd.cells import command_line
 from registry_etcd.replica import NO_LINE
+
+if TYPE_CHECKING:
+    from collections.abc import Iterator
+    from io import BufferedReader
+
+    from registry_etcd.front import Arrived
 
 PIECE_BYTES = 65_536
 REQUESTS = (b'{"op":"resolve",', b'{"op": "resolve",')
@@ -13,13 +22,14 @@ REQUESTS = (b'{"op":"resolve",', b'{"op": "resolve",')
 class Line:
     """A request line with its number, and the command that it gives."""
 
-    def __init__(self, number, text):
+    def __init__(self, number: int, text: bytes) -> None:
         self.number, self.text = number, text
         self.op, self.command = read_line(text)
 
 
-def read_line(text):
-    """What a line asks, as far as a front has to know: the word of its `op`, and its line in a journal where it is a command."""
+def read_line(text: bytes) -> tuple[str | None, bytes | None]:
+    """What a line asks, as far as a front has to know: the word of its `op`, and its line in a journal where it is a
+    command."""
     if text.startswith(REQUESTS) and text.count(b'"op"') == 1 and b"\\" not in text:
         # no second member can be the `op`, whatever follows: if this is a line at all, then a request
         return "resolve", None
@@ -30,7 +40,7 @@ def read_line(text):
         return None, None
 
 
-def texts(reader):
+def texts(reader: BufferedReader) -> Iterator[list[bytes]]:
     """The lines of what is read, those that came together in one list. Of a line that is too long nothing is kept."""
     rest, is_long = b"", False
     for piece in iter(lambda: reader.read1(PIECE_BYTES), b""):
@@ -40,12 +50,12 @@ def texts(reader):
         if len(rest) > MOST_LINE_BYTES:
             rest, is_long = b"", True
         if whole:
-            yield [NO_LINE if len(it) > MOST_LINE_BYTES else it for it in whole]
+            yield [NO_LINE if len(line) > MOST_LINE_BYTES else line for line in whole]
     if rest or is_long:
         yield [NO_LINE if is_long else rest]
 
 
-def read_lines(reader, arrived):
+def read_lines(reader: BufferedReader, arrived: Arrived) -> None:
     """Hands over lists of lines, and none at the end."""
     numbers = itertools.count(1)
     for together in texts(reader):

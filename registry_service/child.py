@@ -1,8 +1,11 @@
 """The program as a child of the service: what is written to it, and each line that it answers."""
+from __future__ import annotations
+
 import asyncio
 import re
 import time
 from collections import deque
+from collections.abc import Callable, Iterable, Sequence
 from subprocess import PIPE
 
 from registry_cli.failures import Failed
@@ -17,19 +20,22 @@ ACCEPTED = b'{"ok":'  # how the reply to an accepted command begins
 class Child(asyncio.Protocol):
     """A program over a journal, begun with these words. `gone` is a future with the reason why it has ended."""
 
-    def __init__(self, path, words, handed=()):
-        self.path, self.waiting, self.is_killed = path, deque(), False
+    def __init__(self, path: str, words: Iterable[str], handed: Sequence[int] = ()) -> None:
+        self.path, self.is_killed = path, False
+        self.waiting: deque[Callable[[bytes], object]] = deque()
         self.said = ""  # on standard error, once it has ended
-        self.pieces = []  # of the line that has not come whole: it may be long
-        self.input, self.early = None, []  # what is to be written before the pipe is connected
+        self.pieces: list[bytes] = []  # of the line that has not come whole: it may be long
+        self.input: asyncio.WriteTransport | None = None
+        self.early: list[bytes] = []  # what is to be written before the pipe is connected
         # in a group of its own: a key that interrupts the service leaves its programs to it
-        self.process = Tied([*program(), "serve", *words], stdin=PIPE, stdout=PIPE, stderr=PIPE, pass_fds=handed, process_group=0)
-        self.gone = asyncio.get_running_loop().create_future()
+        self.process = Tied([*program(), "serve", *words], stdin=PIPE, stdout=PIPE, stderr=PIPE, pass_fds=handed,
+                            process_group=0)
+        self.gone: asyncio.Future[str] = asyncio.get_running_loop().create_future()
 
-    async def begin(self):
+    async def begin(self) -> int:
         """Answers the revision of the journal, once that is loaded."""
         loop = asyncio.get_running_loop()
-        loaded = loop.create_future()
+        loaded: asyncio.Future[bytes] = loop.create_future()
         self.ask(EMPTY, loaded.set_result)
         self.input, _ = await loop.connect_write_pipe(asyncio.BaseProtocol, self.process.stdin)
         self.input.write(b"".join(self.early))
@@ -37,9 +43,11 @@ class Child(asyncio.Protocol):
         await asyncio.wait((loaded, self.gone), return_when=asyncio.FIRST_COMPLETED)
         if not loaded.done():
             raise Failed(self.gone.result())
-        return int(re.search(rb"[0-9]+", loaded.result())[0])
+        revision = re.search(rb"[0-9]+", loaded.result())
+        assert revision
+        return int(revision[0])
 
-    def ask(self, line, answered):
+    def ask(self, line: bytes, answered: Callable[[bytes], object]) -> None:
         """Writes a line; `answered` is called with the reply, unless the program ends before."""
         self.waiting.append(answered)
         if not self.input:
@@ -47,7 +55,7 @@ class Child(asyncio.Protocol):
         elif not self.input.is_closing():
             self.input.write(line + b"\n")
 
-    def data_received(self, data):
+    def data_received(self, data: bytes) -> None:
         first, *others = data.split(b"\n")
         self.pieces.append(first)
         if not others:
@@ -58,20 +66,28 @@ class Child(asyncio.Protocol):
             if not self.is_killed:  # what it had is given up then, by a reply before this one too
                 self.waiting.popleft()(line)
 
-    def connection_lost(self, _):
+    def connection_lost(self, _: Exception | None) -> None:
         """Its output has ended, and so does it."""
+        assert self.input and self.process.stderr
         if not self.input.is_closing():
             self.input.abort()
         with self.process.stderr as file:
             self.said = file.read().decode(errors="replace")
         status = self.process.wait()
         self.process.let_go()
-        self.gone.set_result(reason(self.said, self.path) or self.said.strip() or f"the program ended with status {status}")
+        why = reason(self.said, self.path) or self.said.strip() or f"the program ended with status {status}"
+        self.gone.set_result(why)
 
-    def spent(self):
+    def end_input(self) -> None:
+        """Has it end once it has answered all that it was asked."""
+        assert self.input
+        self.input.close()
+
+    def spent(self) -> float:
         """Seconds of a processor that it has had; none where it has ended."""
-        return 0 if self.gone.done() else time.clock_gettime(~self.process.pid << 3 | 2)  # as Linux numbers the clocks of processes
+        # as Linux numbers the clocks of processes
+        return 0 if self.gone.done() else time.clock_gettime(~self.process.pid << 3 | 2)
 
-    def kill(self):
+    def kill(self) -> None:
         self.is_killed = True
         self.process.kill()

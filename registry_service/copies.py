@@ -1,4 +1,6 @@
 """Copies of the journal as it stood at a revision."""
+from collections.abc import Iterator
+
 from registry_cli.catalog import LEARN
 
 PIECE = 262_144  # bytes
@@ -7,7 +9,7 @@ PIECE = 262_144  # bytes
 class Copy:
     """One, whole, in pieces. What stands in the file for it does not change any more."""
 
-    def __init__(self, path, revision):
+    def __init__(self, path: str, revision: int) -> None:
         self.path, count = path, 0
         with open(path, "rb") as file:
             self.length = len(file.readline())
@@ -19,15 +21,15 @@ class Copy:
                 count += 1
         self.end = b"end %d\n" % count
 
-    def __len__(self):
+    def __len__(self) -> int:
         return self.length + len(self.end)
 
-    def __iter__(self):
+    def __iter__(self) -> Iterator[bytes]:
         with open(self.path, "rb") as file:
             for begin in range(0, self.length, PIECE):
                 yield file.read(min(PIECE, self.length - begin))
         yield self.end
 
 
-def text_at(path, revision):
+def text_at(path: str, revision: int) -> bytes:
     return b"".join(Copy(path, revision))

@@ -1,14 +1,20 @@
 """What keeps the program from writing the journal, as a full disk does, and when it can again."""
+from __future__ import annotations
+
 import asyncio
 import json
 import os
 import re
 import tempfile
+from typing import TYPE_CHECKING
 
 from registry_cli.failures import Failed
 from registry_cli.limits import MOST_LINE_BYTES
 
 from .journal import commands_after
+
+if TYPE_CHECKING:
+    from .keeper import Keeper
 
 SAID = re.compile(r"registryd: journal .*: (can't be \w+(?:: .*?)?)(?: \(os error [0-9]+\))?\n")
 LOOKS = 1, 60  # seconds before it is looked whether the journal can be written again: at first, and at most
@@ -17,14 +23,16 @@ LOOKS = 1, 60  # seconds before it is looked whether the journal can be written 
 class Disk:
     """That of a keeper. `fault` is what is the matter with it, and empty where nothing is."""
 
-    def __init__(self, keeper):
-        self.keeper, self.fault, self.looking = keeper, "", None
+    def __init__(self, keeper: Keeper) -> None:
+        self.keeper, self.fault = keeper, ""
+        self.looking: asyncio.Task[None] | None = None
 
-    def judge(self, said):
-        """Takes what the program said as it ended. Answers whether it could not write the journal and nothing stands there that was not
-        told: then no command that was under way is accepted, ever, since the next program cuts off what is no whole line."""
+    def judge(self, said: str) -> bool:
+        """Takes what the program said as it ended. Answers whether it could not write the journal and nothing stands
+        there that was not told: then no command that was under way is accepted, ever, since the next program cuts off
+        what is no whole line."""
         found = SAID.fullmatch(said)
-        self.fault = found and f"the journal {found[1]}" or ""
+        self.fault = f"the journal {found[1]}" if found else ""
         if self.fault and not self.looking:
             self.looking = asyncio.create_task(self.look())
         try:
@@ -32,26 +40,26 @@ class Disk:
         except (Failed, OSError):
             return False
 
-    def refusal(self):
+    def refusal(self) -> bytes:
         """What a command is answered."""
-        said = {"error": 503, "name": "DiskFault", "reason": self.fault, "revision": self.keeper.revision}
-        return json.dumps(said, separators=(",", ":")).encode()
+        reply = {"error": 503, "name": "DiskFault", "reason": self.fault, "revision": self.keeper.revision}
+        return json.dumps(reply, separators=(",", ":")).encode()
 
-    async def look(self):
-        """Looks again and again whether there is room for a line. Then the program is ended, for which it has to write the journal's end:
-        where it can, nothing is at fault any more."""
+    async def look(self) -> None:
+        """Looks again and again whether there is room for a line. Then the program is ended, for which it has to write
+        the journal's end: where it can, nothing is at fault any more."""
         pause, longest = LOOKS
         while self.fault:
             await asyncio.sleep(pause)
             if self.fault and self.keeper.is_up and await asyncio.to_thread(has_room, self.keeper.path):
-                self.keeper.child.input.close()
+                self.keeper.program.end_input()
                 pause = min(2 * pause, longest)
         self.looking = None
 
 
-def has_room(path):
-    """Whether a line of any length could be written beside a journal, at its end. Where no other file may be written, the program has to
-    try."""
+def has_room(path: str) -> bool:
+    """Whether a line of any length could be written beside a journal, at its end. Where no other file may be written,
+    the program has to try."""
     try:
         with tempfile.TemporaryFile(dir=os.path.dirname(os.path.realpath(path))) as file:
             file.seek(os.path.getsize(path))

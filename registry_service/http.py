@@ -1,15 +1,23 @@
-"""What a service answers over HTTP: its counts, whether it is well, the journal as it stands, and when its commands came."""
+"""What a service answers over HTTP: its counts, whether it is well, the journal as it stands, and when its commands
+came."""
+from __future__ import annotations
+
 import asyncio
 import contextlib
 import os
 import re
+from collections.abc import Callable, Sequence
 from functools import partial
+from typing import TYPE_CHECKING
 
 from registry_cli.failures import Failed
 from registry_cli.program import version
 
 from .copies import Copy
 from .ops import BLANKS
+
+if TYPE_CHECKING:
+    from .service import Service
 
 LINES, HTTP, OTHER = "lines", "HTTP", "neither"  # what may be spoken on a connection
 REQUEST = re.compile(rb"([A-Z]+) (\S+) HTTP/1\.([01])(\s*\n)?")
@@ -29,10 +37,12 @@ PAGE = os.sysconf("SC_PAGE_SIZE")
 OK, UNAVAILABLE = "200 OK", "503 Service Unavailable"
 PLAIN, PROMETHEUS = "text/plain; charset=utf-8", "text/plain; version=0.0.4; charset=utf-8"
 
+Answer = tuple[str, str, "bytes | Copy"]  # the status, what kind of text it is, and the text
 
-def spoken(lines, rest):
+
+def spoken(lines: Sequence[bytes], rest: bytes) -> str | None:
     """What is spoken on a connection, by its first line that is not blank; nothing where that can't be told so far."""
-    first = next((it for it in lines if it.strip(BLANKS)), None)
+    first = next((line for line in lines if line.strip(BLANKS)), None)
     if OBJECT.match(rest if first is None else first):
         return LINES
     if lines and REQUEST.match(lines[0]):
@@ -40,7 +50,8 @@ def spoken(lines, rest):
     return None if first is None and len(rest) <= MOST_HEAD and UNFINISHED.match(rest) else OTHER
 
 
-def page(service, transport=None, begun=b""):
+def page(service: Service, transport: asyncio.BaseTransport | None = None,
+         begun: bytes = b"") -> asyncio.StreamReaderProtocol:
     """What speaks HTTP on a new connection, or on one that has begun with these bytes."""
     made = asyncio.StreamReaderProtocol(asyncio.StreamReader(), partial(tell, service))
     if transport:
@@ -50,7 +61,7 @@ def page(service, transport=None, begun=b""):
     return made
 
 
-async def tell(service, reader, writer):
+async def tell(service: Service, reader: asyncio.StreamReader, writer: asyncio.StreamWriter) -> None:
     """Answers one request, if it comes and the answer is read in time."""
     place = writer.transport
     is_guest = place not in service.pages and not service.takes_in(place, service.pages)
@@ -71,17 +82,20 @@ async def tell(service, reader, writer):
         service.guests.discard(place)
 
 
-async def head_of(reader):
+async def head_of(reader: asyncio.StreamReader) -> bytes:
     """What comes up to the first empty line, or up to a first line that is not of HTTP, and perhaps more."""
     head, piece = b"", b"."
-    while piece and b"\r\n\r\n" not in head and b"\n\n" not in head and len(head) <= MOST_HEAD and (b"\n" not in head or REQUEST.match(head)):
+    while piece and b"\r\n\r\n" not in head and b"\n\n" not in head and len(head) <= MOST_HEAD:
+        if b"\n" in head and not REQUEST.match(head):
+            break
         piece = await reader.read(MOST_HEAD)
         head += piece
     return head if piece else b""
 
 
-async def guest_head(service, reader, place):
-    """The same of a connection for which there is no room; nothing where there are too many of these, or it takes too long."""
+async def guest_head(service: Service, reader: asyncio.StreamReader, place: asyncio.BaseTransport) -> bytes:
+    """The same of a connection for which there is no room; nothing where there are too many of these, or it takes too
+    long."""
     if len(service.guests) < MOST_GUESTS:
         service.guests.add(place)
         with contextlib.suppress(TimeoutError):
@@ -90,17 +104,20 @@ async def guest_head(service, reader, place):
     return b""
 
 
-async def tell_one(service, head, writer, is_guest):
-    async with service.copying if COPY.match(head) and not is_guest else contextlib.nullcontext():
+async def tell_one(service: Service, head: bytes, writer: asyncio.StreamWriter, is_guest: bool) -> None:
+    turn: contextlib.AbstractAsyncContextManager[None] = contextlib.nullcontext()
+    if COPY.match(head) and not is_guest:
+        turn = service.copying
+    async with turn:
         status, kind, text = await answer(service, head, writer.get_extra_info("peername"), is_guest)
-        writer.write(f"HTTP/1.1 {status}\r\nContent-Type: {kind}\r\nContent-Length: {len(text)}\r\nConnection: close\r\n\r\n".encode())
-        for piece in [text] if isinstance(text, bytes) else text:
+        writer.write(f"HTTP/1.1 {status}\r\nContent-Type: {kind}\r\nContent-Length: {len(text)}\r\n"
+                     "Connection: close\r\n\r\n".encode())
+        for piece in (text,) if isinstance(text, bytes) else iter(text):
             writer.write(piece)
             await writer.drain()
 
 
-async def answer(service, head, address, is_guest=False):
-    """The status, what kind of text it is, and the text."""
+async def answer(service: Service, head: bytes, address: object, is_guest: bool = False) -> Answer:
     line, hosts = REQUEST.match(head), HOST.findall(head)
     if not line or not line[4]:
         return "400 Bad Request", PLAIN, b"this is no request over HTTP\n"
@@ -122,7 +139,7 @@ async def answer(service, head, address, is_guest=False):
     return "404 Not Found", PLAIN, b"there are /metrics, /health, /journal and /log\n"
 
 
-def illness(service):
+def illness(service: Service) -> str:
     """Why it can't do all that it is for; the empty text where it can."""
     if service.is_stopping:
         return "stopping"
@@ -135,26 +152,29 @@ def illness(service):
     return "no reader is free: requests wait" if service.readers.are_late() else ""
 
 
-def metrics(service, build):
+def metrics(service: Service, build: str) -> bytes:
     size = os.stat(service.path).st_size if os.path.exists(service.path) else 0
     can_accept = service.keeper.is_up and not service.keeper.disk.fault
     return service.watch.text({
-        "clients": len(service.clients), "lines_waiting": sum(len(it.asked) + len(it.lines) for it in service.clients),
-        "readers": service.readers.ready(), "keeper_up": can_accept, "revision": service.keeper.revision, "journal_bytes": size,
-        "disk_free_bytes": free_bytes(service.path), "resident_bytes": memory(service), "build_info": {build: 1}})
+        "clients": len(service.clients),
+        "lines_waiting": sum(len(client.asked) + len(client.lines) for client in service.clients),
+        "readers": service.readers.ready(), "keeper_up": can_accept, "revision": service.keeper.revision,
+        "journal_bytes": size, "disk_free_bytes": free_bytes(service.path), "resident_bytes": memory(service),
+        "build_info": {build: 1}})
 
 
-def build():
+def build() -> str:
     """What the program says of itself, as labels."""
     said = ""
     with contextlib.suppress(Failed, OSError):
         said = version()
     found = re.match(r"\w+ ([\w.+~-]+), commit (\w+)", said)
     proved = "unknown" if not found else "yes" if "The program is proved" in said else "no"
-    return 'version="{}",commit="{}",proved="{}"'.format(*(found.groups() if found else ("unknown", "unknown")), proved)
+    number, commit = found.groups() if found else ("unknown", "unknown")
+    return f'version="{number}",commit="{commit}",proved="{proved}"'
 
 
-def free_bytes(path):
+def free_bytes(path: str) -> int:
     """How many bytes may still be written beside a journal."""
     try:
         found = os.statvfs(os.path.dirname(os.path.realpath(path)))
@@ -163,9 +183,11 @@ def free_bytes(path):
     return found.f_bavail * found.f_frsize
 
 
-def memory(service):
+def memory(service: Service) -> dict[str, int]:
     """The resident memory of the service and of its programs, as far as they run."""
-    programs = [("service", os.getpid()), *((it.role, it.child.process.pid) for it in (service.keeper, *service.readers.readers) if it.child)]
+    programs = [("service", os.getpid())]
+    programs += [(each.role, each.child.process.pid) for each in (service.keeper, *service.readers.readers)
+                 if each.child]
     found = {}
     for role, process in programs:
         with contextlib.suppress(OSError, IndexError), open(f"/proc/{process}/statm", encoding="ascii") as file:
@@ -173,7 +195,7 @@ def memory(service):
     return found
 
 
-async def journal(service, path, query, is_guest):
+async def journal(service: Service, path: bytes, query: bytes, is_guest: bool) -> Answer:
     """The journal at a revision, or its commands after one with their times. Clients are answered while it is read."""
     if is_guest:
         return UNAVAILABLE, PLAIN, b"as many clients as are allowed are connected\n"
@@ -186,7 +208,9 @@ async def journal(service, path, query, is_guest):
     if asked and int(asked[1]) > last:
         return "404 Not Found", PLAIN, f"the journal is at revision {last}\n".encode()
     number = int(asked[1]) if asked else 0 if path == b"/log" else last
-    read = partial(service.times.text, service.path, number, last) if path == b"/log" else partial(Copy, service.path, number)
+    read: Callable[[], bytes | Copy] = partial(Copy, service.path, number)
+    if path == b"/log":
+        read = partial(service.times.text, service.path, number, last)
     try:
         return OK, PLAIN, await service.loop.run_in_executor(None, read)
     except OSError as fault:

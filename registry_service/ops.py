@@ -1,4 +1,6 @@
 """What a line asks, by its member `op`."""
+from __future__ import annotations
+
 import json
 import re
 
@@ -10,9 +12,9 @@ MEMBER, VALUE = b'"op":', re.compile(rb'"(?:[a-z]|\\u00[0-9A-Fa-f]{2}){4,7}"')
 ESCAPES = (b"\\u006f", b"o"), (b"\\u006F", b"o"), (b"\\u0070", b"p")
 
 
-def op_of(line):
-    """What a line asks; nothing where it can't be read or asks nothing that is known. Only the program says what is wrong then. None of a
-    long line in which `op` seems to be named more than once."""
+def op_of(line: bytes) -> str | None:
+    """What a line asks; nothing where it can't be read or asks nothing that is known. Only the program says what is
+    wrong then. None of a long line in which `op` seems to be named more than once."""
     try:
         op = json.loads(line.decode())["op"] if len(line) <= LONG else op_of_long(line)
     except (ValueError, TypeError, KeyError, RecursionError):
@@ -20,12 +22,12 @@ def op_of(line):
     return op if op in (*READS, *COMMANDS, None) else ""
 
 
-def op_of_long(line):
-    """The same of a long line, without a look at what else it says. Where its one `op` stands within another value, or is none, the line
-    is at fault whoever reads it."""
+def op_of_long(line: bytes) -> str | None:
+    """The same of a long line, without a look at what else it says. Where its one `op` stands within another value, or
+    is none, the line is at fault whoever reads it."""
     line = line.translate(None, BLANKS)
     for escape, letter in ESCAPES if b"\\" in line else ():
         line = line.replace(escape, letter)
     _, _, behind = line.partition(MEMBER)
     found = VALUE.match(behind)
-    return None if MEMBER in behind else found and json.loads(found[0]) or ""
+    return None if MEMBER in behind else str(json.loads(found[0])) if found else ""

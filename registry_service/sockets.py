@@ -1,4 +1,6 @@
 """What a service asks of the system: sockets to listen on, files to open, and the ear of systemd."""
+from __future__ import annotations
+
 import contextlib
 import grp
 import os
@@ -11,15 +13,16 @@ from registry_cli.failures import Failed
 HOST = "127.0.0.1"
 
 
-def bound_port(port):
+def bound_port(port: int) -> socket.socket:
     try:
         return socket.create_server((HOST, port))
     except OSError as fault:
-        raise Failed(f"port {port} can't be taken: {os.strerror(fault.errno)}") from None
+        raise Failed(f"port {port} can't be taken: {os.strerror(fault.errno or 0)}") from None
 
 
-def bound_file(path, mode, group):
-    """A socket in the file system, in place of one that nobody listens on. Until mode and group are set nobody else reaches it."""
+def bound_file(path: str, mode: int, group: str | None) -> socket.socket:
+    """A socket in the file system, in place of one that nobody listens on. Until mode and group are set nobody else
+    reaches it."""
     bound = socket.socket(socket.AF_UNIX)
     try:
         owners = grp.getgrnam(group).gr_gid if group else -1
@@ -46,14 +49,14 @@ def bound_file(path, mode, group):
     return bound
 
 
-def allow_files(count):
+def allow_files(count: int) -> None:
     """Lets this process open so many files, where it may."""
     soft, hard = resource.getrlimit(resource.RLIMIT_NOFILE)
     wanted = max(soft, count + 100)
     resource.setrlimit(resource.RLIMIT_NOFILE, (wanted if hard == resource.RLIM_INFINITY else min(wanted, hard), hard))
 
 
-def notify(state):
+def notify(state: str) -> None:
     """Tells systemd, where it began this."""
     if address := os.environ.get("NOTIFY_SOCKET"):
         with socket.socket(socket.AF_UNIX, socket.SOCK_DGRAM) as sender, contextlib.suppress(OSError):

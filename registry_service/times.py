@@ -1,30 +1,39 @@
-"""When each command was accepted. The journal has no times: of what stood there before the service began none is known."""
+"""When each command was accepted. The journal has no times: of what stood there before the service began none is
+known."""
+from __future__ import annotations
+
 from datetime import datetime, timezone
+from typing import TYPE_CHECKING
 
 from registry_cli.catalog import commands_in
 
 from .copies import text_at
 
+if TYPE_CHECKING:
+    from .keeper import Keeper
+
 UNKNOWN = "-"
 
 
-def now():
+def now() -> str:
     return datetime.now(timezone.utc).isoformat(timespec="milliseconds").removesuffix("+00:00") + "Z"
 
 
 class Times:
     """Those of a keeper, by revision."""
 
-    def __init__(self, keeper):
-        self.keeper, self.known = keeper, {}
+    def __init__(self, keeper: Keeper) -> None:
+        self.keeper = keeper
+        self.known: dict[int, str] = {}
         keeper.followers.append(self.take)
 
-    def take(self, _):
+    def take(self, _: bytes) -> None:
         """A command is accepted. What a program finds as it begins was accepted some time before."""
         if self.keeper.is_up:
             self.known[self.keeper.revision] = now()
 
-    def text(self, path, after, last):
+    def text(self, path: str, after: int, last: int) -> bytes:
         """A line for each command after a revision: its own revision, its time, and what stands in the journal."""
         commands = commands_in(text_at(path, last))[after:]
-        return b"".join(b"%d %s %s\n" % (at, self.known.get(at, UNKNOWN).encode(), line) for at, line in enumerate(commands, after + 1))
+        return b"".join(b"%d %s %s\n" % (at, self.known.get(at, UNKNOWN).encode(), line)
+                        for at, line in enumerate(commands, after + 1))

@@ -120,7 +120,7 @@ class Keeping(unittest.TestCase):
             closed = []
             self.keeper.is_up, self.keeper.keeping = is_up, mock.Mock()
             gone = asyncio.get_running_loop().create_future()
-            self.keeper.child = SimpleNamespace(gone=gone, input=SimpleNamespace(close=lambda: closed.append(goes and gone.set_result("")) or closed),
+            self.keeper.child = SimpleNamespace(gone=gone, end_input=lambda: closed.append(goes and gone.set_result("")),
                                                 kill=lambda: closed.append("killed"), process=SimpleNamespace(returncode=status), said="")
             self.keeper.asked = deque([self.asked(A1)])
             told = await self.keeper.end(0.01)
@@ -142,7 +142,7 @@ class Faults(unittest.IsolatedAsyncioTestCase):
         self.keeper, self.told, self.closed = keeper.Keeper(self.path, None), [], 0
         self.keeper.accept(A1)
         self.keeper.is_up = True
-        self.keeper.child = SimpleNamespace(said="", ask=lambda line, answered: self.told.append(line), input=SimpleNamespace(close=self.close))
+        self.keeper.child = SimpleNamespace(said="", ask=lambda line, answered: self.told.append(line), end_input=self.close)
         self.enterContext(mock.patch.object(disk, "LOOKS", (0, 0.01)))
         self.has_room = self.enterContext(mock.patch.object(disk, "has_room", return_value=False))
         self.addCleanup(lambda: self.keeper.disk.looking and self.keeper.disk.looking.cancel())

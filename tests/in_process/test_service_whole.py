@@ -70,7 +70,7 @@ class Case(unittest.IsolatedAsyncioTestCase):
 class Asking(Case):
     async def test_what_its_programs_are_told(self):
         made = await self.made()
-        self.assertEqual((made.keeper.given, made.readers.given), (("path", made.watch), ("path", made.watch, made.keeper, made.given)))
+        self.assertEqual((made.keeper.given, made.readers.given), (("path", made.watch), ("path", made.watch, made.keeper, made.options)))
         self.assertEqual((made.watch.path, made.is_stopping, made.is_over), ("-", False, False))
 
     async def test_as_many_clients_as_may_be(self):

@@ -6,20 +6,22 @@
         print(registry.resolve({"app": "^1"}).selected)
 
 `Registry("./registryd")` starts the program as a child. `Registry(embedded=True)` has the same calls over the library
-`libregistryd.so` in this process: no process is started, and a small request takes half the time. `Registry(connect=..)`
-has them over the socket of a service, which `registry serve` is.
+`libregistryd.so` in this process: no process is started, and a small request takes half the time.
+`Registry(connect=..)` has them over the socket of a service, which `registry serve` is.
 
-A call waits for its reply. `ask` and `many` answer futures. To a child they send lines without waiting, so any number of lines can
-be on their way, and resolve lines that come to the program together are shared out among its workers. In this process the lines
-are answered one after another before the futures are returned. Replies come in the order of the lines.
+A call waits for its reply. `ask` and `many` answer futures. To a child they send lines without waiting, so any number
+of lines can be on their way, and resolve lines that come to the program together are shared out among its workers. In
+this process the lines are answered one after another before the futures are returned. Replies come in the order of the
+lines.
 
-A line that is refused by number raises the exception of its name, which is a `Refusal` and has its `culprit`: which text of the request,
-and what was probably meant. That no selection meets a request is no exception: `resolve` answers `NoSelection`, which is false where a
-`Selection` is true. A value that is none of its type is a TypeError or ValueError, before a line is sent; names, versions and
-requirements are judged by the registry alone. Where the session has ended, every call that waits and every later one raises `Ended`, which says how it ended; none waits for ever.
+A line that is refused by number raises the exception of its name, which is a `Refusal` and has its `culprit`: which
+text of the request, and what was probably meant. That no selection meets a request is no exception: `resolve` answers
+`NoSelection`, which is false where a `Selection` is true. A value that is none of its type is a TypeError or
+ValueError, before a line is sent; names, versions and requirements are judged by the registry alone. Where the session
+has ended, every call that waits and every later one raises `Ended`, which says how it ended; none waits for ever.
 
-A call may be interrupted, as by Ctrl-C or by what a signal's handler raises. No later call gets its reply: that is dropped as it comes, or
-the session ends and says why.
+A call may be interrupted, as by Ctrl-C or by what a signal's handler raises. No later call gets its reply: that is
+dropped as it comes, or the session ends and says why.
 
 Any thread may call. It takes Python 3.10 and the standard library.
 """
@@ -29,6 +31,7 @@ import contextlib
 import ctypes
 import fcntl
 import functools
+import io
 import json
 import os
 import queue
@@ -43,7 +46,7 @@ from collections.abc import Callable, Iterable, Iterator, Mapping, Sequence
 from concurrent.futures import Future
 from dataclasses import dataclass, field, replace
 from pathlib import Path
-from typing import TYPE_CHECKING, Any, NoReturn, Union
+from typing import TYPE_CHECKING, Any, NoReturn, TypeVar, Union, cast
 
 if TYPE_CHECKING:
     from registryd_lines.culprit import Culprit
@@ -51,11 +54,13 @@ if TYPE_CHECKING:
     from .tree import Derived
 
 __version__ = "0.3.0"
-__all__ = ["Registry", "Publish", "Yank", "Unyank", "Resolve", "Check", "List", "Line", "Request", "Pairs", "Derivation", "FilePath",
-           "Accepted", "Selection", "NoSelection", "Verdict", "Listing", "Reply", "RegistryError", "Ended", "NothingSelected", "Refusal", "BadName",
-           "BadVersion", "BadRequirement", "RepeatedDependency", "SelfDependency", "TooManyDependencies", "AlreadyPublished", "TooManyVersions",
-           "TooManyPackages", "JournalFull", "NoSuchVersion", "AlreadyYanked", "NotYanked", "Stale", "Known", "StoreFull", "Stray", "NoMemory",
-           "BadLine", "TooLong", "NotADerivation", "BudgetSpent", "REFUSALS"]
+__all__ = [
+    "Registry", "Publish", "Yank", "Unyank", "Resolve", "Check", "List", "Line", "Request", "Pairs", "Derivation",
+    "FilePath", "Accepted", "Selection", "NoSelection", "Verdict", "Listing", "Reply", "RegistryError", "Ended",
+    "NothingSelected", "Refusal", "BadName", "BadVersion", "BadRequirement", "RepeatedDependency", "SelfDependency",
+    "TooManyDependencies", "AlreadyPublished", "TooManyVersions", "TooManyPackages", "JournalFull", "NoSuchVersion",
+    "AlreadyYanked", "NotYanked", "Stale", "Known", "StoreFull", "Stray", "NoMemory", "BadLine", "TooLong",
+    "NotADerivation", "BudgetSpent", "REFUSALS"]
 
 # Names with requirements, or with versions: a mapping, or pairs, which may repeat a name.
 Pairs = Union[Mapping[str, str], Iterable[tuple[str, str]]]
@@ -67,10 +72,10 @@ MOST_TOLD = 4096  # bytes of standard error that are kept, the last ones
 WAITED = 0.5  # seconds that a program which answers no more has to end by itself
 INTERRUPTED = 2.0  # seconds that it has where a `with` is left by an interrupt from the keyboard
 
-# JSON of a value without white space, that of a text, which takes nothing else, and the value of a text. Made once: `json.dumps` and
-# `json.loads` cost three times as much.
+# JSON of a value without white space, that of a text, which takes nothing else, and the value of a text. Made once:
+# `json.dumps` and `json.loads` cost three times as much.
 encoded = json.JSONEncoder(separators=(",", ":")).encode
-quoted = json.encoder.encode_basestring_ascii
+quoted: Callable[[str], str] = json.encoder.encode_basestring_ascii  # type: ignore[attr-defined]  # typeshed lacks it
 decoded = json.JSONDecoder().decode
 
 
@@ -83,7 +88,8 @@ class Publish:
     needs: Pairs = ()
 
     def line(self) -> str:
-        return f'{{"op":"publish","name":{text_of(self.name, "name")},"version":{text_of(self.version, "version")},"needs":{rows(self.needs, "needs")}}}'
+        return (f'{{"op":"publish","name":{text_of(self.name, "name")},"version":{text_of(self.version, "version")},'
+                f'"needs":{rows(self.needs, "needs")}}}')
 
 
 @dataclass(frozen=True)
@@ -127,7 +133,8 @@ class Check:
     def line(self) -> str:
         if not isinstance(self.derivation, (list, tuple)):
             raise TypeError(f"derivation is the lines that a NoSelection has, not {self.derivation!r}")
-        return f'{{"op":"check","needs":{rows(self.needs, "needs")},"lock":{rows(self.lock, "lock")},"derivation":{encoded(self.derivation)}}}'
+        return (f'{{"op":"check","needs":{rows(self.needs, "needs")},"lock":{rows(self.lock, "lock")},'
+                f'"derivation":{encoded(self.derivation)}}}')
 
 
 @dataclass(frozen=True)
@@ -174,24 +181,25 @@ EXAMPLE = {"needs": '("log", "^1.2")', "lock": '("log", "1.3.0")'}
 
 def rows(pairs: Pairs, whose: str) -> str:
     """The JSON of pairs."""
-    given: Iterable[Any]
+    items: Iterable[Any]
     if isinstance(pairs, Mapping):
-        given = pairs.items()
+        items = pairs.items()
     elif isinstance(pairs, (str, bytes)) or not isinstance(pairs, Iterable):
-        raise TypeError(f"{whose} is a mapping or pairs of a name and a {SECOND[whose]}, as [{EXAMPLE[whose]}], not {pairs!r}")
+        raise TypeError(f"{whose} is a mapping or pairs of a name and a {SECOND[whose]}, as [{EXAMPLE[whose]}], "
+                        f"not {pairs!r}")
     else:
-        given = tuple(pairs)
-        if any(isinstance(pair, str) for pair in given):
-            raise wrong_pair(given, whose)  # one of two letters would be taken apart
+        items = tuple(pairs)
+        if any(isinstance(pair, str) for pair in items):
+            raise wrong_pair(items, whose)  # one of two letters would be taken apart
     try:
-        return f"[{','.join([f'[{quoted(name)},{quoted(text)}]' for name, text in given])}]"
+        return f"[{','.join([f'[{quoted(name)},{quoted(text)}]' for name, text in items])}]"
     except (TypeError, ValueError):
-        raise wrong_pair(given, whose) from None
+        raise wrong_pair(items, whose) from None
 
 
-def wrong_pair(given: Iterable[Any], whose: str) -> Exception:
+def wrong_pair(pairs: Iterable[object], whose: str) -> Exception:
     """What is wrong with the first of these that is no pair of texts."""
-    for place, pair in enumerate(given):
+    for place, pair in enumerate(pairs):
         told = f"{whose}[{place}] is a pair of a name and a {SECOND[whose]}, as {EXAMPLE[whose]}, not {pair!r}"
         if isinstance(pair, (str, bytes)) or not isinstance(pair, Iterable):
             return TypeError(told)
@@ -236,7 +244,8 @@ class Selection:
 
 @dataclass(frozen=True)
 class NoSelection:
-    """No selection meets the request, so it is false. Where it was asked to explain: why, for programs and for people."""
+    """No selection meets the request, so it is false. Where it was asked to explain: why, for programs and for
+    people."""
     revision: int
     derivation: Derivation | None = None
     explanation: tuple[str, ...] = ()
@@ -246,7 +255,8 @@ class NoSelection:
         return False
 
     def tree(self) -> Derived:
-        """Why, as a tree that a program can walk, and in the sentences of PubGrub: `print(*refusal.tree().sentences(), sep="\n")`."""
+        """Why, as a tree that a program can walk, and in the sentences of PubGrub:
+        `print(*refusal.tree().sentences(), sep="\n")`."""
         from .tree import tree
         if not self.explanation:
             raise ValueError("a NoSelection has a tree where it answers a request with explain=True")
@@ -254,7 +264,8 @@ class NoSelection:
 
     @property
     def selected(self) -> NoReturn:
-        raise NothingSelected(f"no selection meets the request at revision {self.revision}: see the explanation, or ask with explain=True for one")
+        raise NothingSelected(f"no selection meets the request at revision {self.revision}: see the explanation, "
+                              "or ask with explain=True for one")
 
 
 @dataclass(frozen=True)
@@ -279,8 +290,8 @@ class RegistryError(Exception):
 
 
 class Ended(RegistryError):
-    """The session has ended, or was closed, and answers no more. The status is the program's, and none where it still ran or where
-    there is no program."""
+    """The session has ended, or was closed, and answers no more. The status is the program's, and none where it still
+    ran or where there is no program."""
 
     def __init__(self, told: str, status: int | None = None) -> None:
         super().__init__(told)
@@ -302,7 +313,8 @@ class Refusal(RegistryError):
 
     @property
     def culprit(self) -> Culprit | None:
-        """Which text of the request is at fault, and what was probably meant; none where no text is, as for a budget that is spent."""
+        """Which text of the request is at fault, and what was probably meant; none where no text is, as for a budget
+        that is spent."""
         from registryd_lines.culprit import culprit
         return culprit(self.number, written(self.request)[:-1]) if self.request else None
 
@@ -421,10 +433,10 @@ class BudgetSpent(Refusal):
     number = 22
 
 
-REFUSALS: dict[int, type[Refusal]] = {it.number: it for it in Refusal.__subclasses__()}
+REFUSALS: dict[int, type[Refusal]] = {kind.number: kind for kind in Refusal.__subclasses__()}
 
 
-def to(request: Request, reply: Any) -> Any:
+def to(request: Request, reply: Reply | RegistryError) -> Reply | RegistryError:
     """A reply with the request that it answers, where it is one that tells of that."""
     if isinstance(reply, Refusal):
         reply.request = request
@@ -446,7 +458,8 @@ def answer(line: bytes) -> Reply | Refusal:
         return NoSelection(revision, said.get("derivation"), tuple(said.get("explanation", ())))
     if "follows" in said:
         return Verdict(revision, said["follows"])
-    return Listing(revision, {name: tuple((text, is_yanked) for text, is_yanked in versions) for name, versions in said["packages"]})
+    packages = {name: tuple((text, is_yanked) for text, is_yanked in versions) for name, versions in said["packages"]}
+    return Listing(revision, packages)
 
 
 # ---- A session
@@ -454,22 +467,24 @@ def answer(line: bytes) -> Reply | Refusal:
 class Registry:
     """A session, with a program of its own or, where it is `embedded`, in this process.
 
-    `program` is the program's path, or the words that start it; `workers` is how many threads resolve requests there, and `budget`
-    that of each request that names none: how many conflicts its search may meet. `library` is the path of libregistryd.so for a
-    session in this process, which else is the one that the variable REGISTRYD_LIBRARY names, the one that is installed with this
-    package, or the one that the system finds. What can't be started or loaded is an OSError. A session in this process has no workers
-    and no budget of its own, and no signal breaks off a search there: give each request a `budget`.
+    `program` is the program's path, or the words that start it; `workers` is how many threads resolve requests there,
+    and `budget` that of each request that names none: how many conflicts its search may meet. `library` is the path of
+    libregistryd.so for a session in this process, which else is the one that the variable REGISTRYD_LIBRARY names, the
+    one that is installed with this package, or the one that the system finds. What can't be started or loaded is an
+    OSError. A session in this process has no workers and no budget of its own, and no signal breaks off a search there:
+    give each request a `budget`.
 
-    `connect` is the address of a service, the path of its socket or HOST:PORT. Where the connection breaks off, it is made again, and what has no reply is asked again, a command unless it
-    was carried out. The `close` of such a session ends it alone.
+    `connect` is the address of a service, the path of its socket or HOST:PORT. Where the connection breaks off, it is
+    made again, and what has no reply is asked again, a command unless it was carried out. The `close` of such a session
+    ends it alone.
 
     `journal` is the file that the session goes on with, made where it is not there: it has each accepted command before
-    the call that made it returns, whatever becomes of this process or the program. Else the session begins with the journal that
-    is loaded, if one is, and where one is to be saved writes it as it is closed."""
+    the call that made it returns, whatever becomes of this process or the program. Else the session begins with the
+    journal that is loaded, if one is, and where one is to be saved writes it as it is closed."""
 
     def __init__(self, program: FilePath | Sequence[str] = "registryd", *, workers: int = 1, budget: int | None = None,
-                 journal: FilePath | None = None, load: FilePath | None = None, save: FilePath | None = None, embedded: bool = False,
-                 library: FilePath | None = None, connect: FilePath | None = None) -> None:
+                 journal: FilePath | None = None, load: FilePath | None = None, save: FilePath | None = None,
+                 embedded: bool = False, library: FilePath | None = None, connect: FilePath | None = None) -> None:
         if journal is not None and (load is not None or save is not None):
             raise ValueError("a session that goes on with a journal loads and saves none")
         number_of(workers, "workers", 1, 64)
@@ -501,23 +516,30 @@ class Registry:
 
     def publish(self, name: str, version: str, needs: Pairs = ()) -> int:
         """Publishes a version; answers the revision."""
-        return self._call(Publish(name, version, needs)).revision
+        accepted: Accepted = self._call(Publish(name, version, needs))
+        return accepted.revision
 
     def yank(self, name: str, version: str) -> int:
-        return self._call(Yank(name, version)).revision
+        accepted: Accepted = self._call(Yank(name, version))
+        return accepted.revision
 
     def unyank(self, name: str, version: str) -> int:
-        return self._call(Unyank(name, version)).revision
+        accepted: Accepted = self._call(Unyank(name, version))
+        return accepted.revision
 
-    def resolve(self, needs: Pairs, lock: Pairs = (), *, budget: int | None = None, explain: bool = False) -> Selection | NoSelection:
-        """Versions that fit together. The budget is how many conflicts the search may meet: beyond it `BudgetSpent` is raised."""
-        return self._call(Resolve(needs, lock, budget, explain))
+    def resolve(self, needs: Pairs, lock: Pairs = (), *, budget: int | None = None,
+                explain: bool = False) -> Selection | NoSelection:
+        """Versions that fit together. The budget is how many conflicts the search may meet: beyond it `BudgetSpent` is
+        raised."""
+        resolved: Selection | NoSelection = self._call(Resolve(needs, lock, budget, explain))
+        return resolved
 
     def check(self, needs: Pairs, derivation: Derivation, lock: Pairs = ()) -> bool:
         """Whether the derivation of a refusal follows."""
-        return self._call(Check(needs, derivation, lock)).follows
+        verdict: Verdict = self._call(Check(needs, derivation, lock))
+        return verdict.follows
 
-    def _call(self, request: Request) -> Any:
+    def _call(self, request: Request) -> Any:  # the reply of that request's kind
         try:
             return to(request, self._session.call(request))
         except Refusal as refusal:
@@ -525,7 +547,8 @@ class Registry:
             raise
 
     def list(self) -> Listing:
-        return self._call(List())
+        listing: Listing = self._call(List())
+        return listing
 
     def ask(self, request: Request) -> Future[Reply]:
         """Sends a line. Its future has the reply, or raises what the call would."""
@@ -534,24 +557,25 @@ class Registry:
     def many(self, requests: Iterable[Request]) -> Sequence[Future[Reply]]:
         """Sends lines together: all of them, or none where one can't be written."""
         asked = list(requests)
-        lines = [written(it) for it in asked]
-        futures = [Awaited(it) for it in asked]
+        lines = [written(request) for request in asked]
+        futures = [Awaited(request) for request in asked]
         for future in futures:
             future.set_running_or_notify_cancel()  # a line that was sent can't be taken back
         self._session.send(lines, tuple(futures))
         return futures
 
     def close(self, seconds: float | None = None) -> None:
-        """Waits for all replies, and then for the journal to be whole. Raises `Ended` where the session failed. Once is enough.
+        """Waits for all replies, and then for the journal to be whole. Raises `Ended` where the session failed. Once is
+        enough.
 
-        It takes no more than so many seconds, where they are given. A program that has not ended by then is killed, and `Ended`
-        is raised. A search in this process can't be ended: where one still runs in another thread, TimeoutError is raised, and
-        `close` may be called again."""
+        It takes no more than so many seconds, where they are given. A program that has not ended by then is killed, and
+        `Ended` is raised. A search in this process can't be ended: where one still runs in another thread, TimeoutError
+        is raised, and `close` may be called again."""
         self._session.close(seconds)
 
     def kill(self) -> None:
-        """Ends the session at once, a search in this process aside: what waits is told, and nothing is saved. A journal has all
-        that was told as accepted."""
+        """Ends the session at once, a search in this process aside: what waits is told, and nothing is saved. A journal
+        has all that was told as accepted."""
         self._session.kill()
 
     def __enter__(self) -> Registry:
@@ -561,7 +585,8 @@ class Registry:
         if kind is not KeyboardInterrupt:
             self.close()
             return
-        with contextlib.suppress(Ended, TimeoutError):  # who interrupts doesn't wait for a long search, and is not told otherwise
+        # who interrupts doesn't wait for a long search, and is not told otherwise
+        with contextlib.suppress(Ended, TimeoutError):
             self.close(INTERRUPTED)
 
 
@@ -569,15 +594,17 @@ CLOSED, DIED = "the session was closed", "the program ended"
 BROKEN_OFF = "a call was interrupted while its line was being sent"
 
 
-class Awaited(Future):
+class Awaited(Future[Reply]):
     """What becomes of the line of a request, for any number of threads."""
+    _condition: threading.Condition  # of Future, whose stub lacks it
 
     def __init__(self, request: Request) -> None:
         super().__init__()
         self._request = request
 
     def settle(self, reply: Reply | RegistryError) -> None:
-        """Doesn't wait for the future's lock: a thread that was interrupted in a call of this future may have left it locked for good."""
+        """Doesn't wait for the future's lock: a thread that was interrupted in a call of this future may have left it
+        locked for good."""
         if self._condition.acquire(blocking=False):
             self._condition.release()
             self._set(reply)
@@ -592,12 +619,13 @@ class Awaited(Future):
             self.set_result(reply)
 
 
-class Answered(queue.SimpleQueue):
-    """What becomes of one line, for a single thread that waits: as much of a future as that takes, for a fifth of its time."""
+class Answered(queue.SimpleQueue[Union[Reply, RegistryError]]):
+    """What becomes of one line, for a single thread that waits: as much of a future as that takes, for a fifth of its
+    time."""
 
     settle = queue.SimpleQueue.put
 
-    def result(self) -> Any:
+    def result(self) -> Reply:
         reply = self.get()
         if isinstance(reply, RegistryError):
             raise reply
@@ -608,8 +636,8 @@ Futures = Sequence[Union[Awaited, Answered]]
 
 
 class Ending:
-    """The end of something, for any number of threads that wait for it. One that is interrupted may wait again: after an interrupted `join`
-    of a thread, Python takes the thread for ended."""
+    """The end of something, for any number of threads that wait for it. One that is interrupted may wait again: after
+    an interrupted `join` of a thread, Python takes the thread for ended."""
 
     def __init__(self) -> None:
         self._has_come, self._lock = False, threading.Lock()
@@ -631,7 +659,7 @@ class Threaded:
     """A session whose replies come by threads of its own."""
     _threads: list[threading.Thread]
 
-    def call(self, request: Request) -> Any:
+    def call(self, request: Request) -> Reply:
         if threading.current_thread() in self._threads:
             raise RuntimeError("a callback of a future can't wait for a reply: it may ask")
         answered = Answered()
@@ -647,28 +675,32 @@ class Threaded:
 class _Child(Threaded):
     """A session with a program that is started for it, and asked over pipes by three threads.
 
-    A call may be broken off between any two of its steps: by a key, by what a signal's handler raises, for lack of memory. So whoever finds
-    that a line and its future did not enter both, which only one that has the turn can, writes no more, and the session ends. The three
-    threads are not broken off."""
+    A call may be broken off between any two of its steps: by a key, by what a signal's handler raises, for lack of
+    memory. So whoever finds that a line and its future did not enter both, which only one that has the turn can, writes
+    no more, and the session ends. The three threads are not broken off."""
 
     def __init__(self, words: Sequence[str]) -> None:
         lifeline, self._lifeline = map(beside_streams, os.pipe())
         try:
             # in a session of its own: a key that interrupts this program leaves it to end with its input, and to save
-            self._process = subprocess.Popen(words, stdin=subprocess.PIPE, stdout=subprocess.PIPE, stderr=subprocess.PIPE,
-                                             start_new_session=True, pass_fds=[lifeline])
+            pipe = subprocess.PIPE
+            self._process = subprocess.Popen(words, stdin=pipe, stdout=pipe, stderr=pipe, start_new_session=True,
+                                             pass_fds=[lifeline])
             end_with_writers(lifeline, self._process.pid)
         except BaseException:
             os.close(self._lifeline)
             raise
         finally:
             os.close(lifeline)
+        assert self._process.stdin and self._process.stdout and self._process.stderr
+        self._stdin, self._stdout, self._stderr = self._process.stdin, self._process.stdout, self._process.stderr
         self._turn = threading.RLock()  # which a thread can give back only where it has it
         self._is_whole = True  # whether each line has its future and more may come
-        self._waiting: deque[Awaited | Answered] = deque()  # of the lines that are written and have no reply so far, in order
+        # of the lines that are written and have no reply so far, in order
+        self._waiting: deque[Awaited | Answered] = deque()
         self._queued: deque[tuple[bytes, Futures]] = deque()  # what a thread is to write, with the futures of its lines
         self._wake: queue.SimpleQueue[bool] = queue.SimpleQueue()  # has that thread look there; false has it end
-        self._input = self._process.stdin.fileno()
+        self._input = self._stdin.fileno()
         self._writable = select.poll()
         self._writable.register(self._input, select.POLLOUT)
         self._fault = ""  # why no more lines are taken, but for a call to close or kill
@@ -727,7 +759,8 @@ class _Child(Threaded):
             self._ending.wait(WAITED)
         was_told, self._is_told = self._is_told, True
         if is_killed:
-            raise Ended(f"the program was killed, since it had not ended {seconds:g} seconds after the session was closed", self._process.returncode)
+            raise Ended(f"the program was killed, since it had not ended {seconds:g} seconds after the session was "
+                        "closed", self._process.returncode)
         if not was_told and (self._fault or self._process.returncode):
             raise self._ended(self._fault or DIED)
 
@@ -740,7 +773,8 @@ class _Child(Threaded):
     # The threads
 
     def _write(self) -> None:
-        """Writes what is queued, and closes the pipe. A program that reads no more is ended, and the thread that reads tells."""
+        """Writes what is queued, and closes the pipe. A program that reads no more is ended, and the thread that reads
+        tells."""
         for step in (self._write_queued, self._shut):
             try:
                 step()
@@ -760,19 +794,20 @@ class _Child(Threaded):
                 self._is_whole = False
                 for text, futures in taken_from(self._queued):
                     self._waiting.extend(futures)
-                    self._process.stdin.write(text)
-                self._process.stdin.flush()
+                    self._stdin.write(text)
+                self._stdin.flush()
                 self._is_whole = True
 
     def _shut(self) -> None:
         with self._turn:
             self._is_whole = False
-        self._process.stdin.close()
+        self._stdin.close()
 
     def _hear(self) -> None:
         """Keeps the end of what the program says on standard error."""
-        with self._process.stderr as said:
-            while told := said.read1(MOST_TOLD):
+        assert isinstance(self._stderr, io.BufferedReader)
+        with self._stderr as stderr:
+            while told := stderr.read1(MOST_TOLD):
                 self._told = (self._told + told)[-MOST_TOLD:]
 
     def _read(self) -> None:
@@ -784,7 +819,7 @@ class _Child(Threaded):
         if self._waiting or not self._is_closed:
             self._stop()
         self._process.wait()
-        self._process.stdout.close()
+        self._stdout.close()
         self._threads[1].join(WAITED)  # a program that this one has started may keep standard error open
         if fault != DIED or not self._is_closed:
             self._fault = self._fault or fault
@@ -797,7 +832,7 @@ class _Child(Threaded):
 
     def _give_replies(self) -> str:
         """Gives each reply to the line that waits longest; answers why no more come."""
-        for line in self._process.stdout:
+        for line in self._stdout:
             if not line.endswith(b"\n"):
                 break
             try:
@@ -822,7 +857,8 @@ class _Child(Threaded):
             self._end()
 
     def _end(self) -> None:
-        """Ends the program at once, with what it may have started. Calls that may be broken off do so: they take none of Popen's locks."""
+        """Ends the program at once, with what it may have started. Calls that may be broken off do so: they take none
+        of Popen's locks."""
         if self._process.returncode is None:
             with contextlib.suppress(ProcessLookupError):
                 os.killpg(self._process.pid, signal.SIGKILL)
@@ -830,11 +866,16 @@ class _Child(Threaded):
     def _ended(self, fault: str = "") -> Ended:
         why = fault or (CLOSED if self._is_closed else self._fault)
         told, status = self._told.decode(errors="replace").strip(), self._process.returncode
-        how = "" if status is None or why == BROKEN_OFF else f" with status {status}" if status >= 0 else f" by signal {-status}"
+        how = ""
+        if status is not None and why != BROKEN_OFF:
+            how = f" with status {status}" if status >= 0 else f" by signal {-status}"
         return Ended(f"{why}{how}{': ' if told else ''}{told}", status)
 
 
-def taken_from(items: deque[Any]) -> Iterator[Any]:
+Item = TypeVar("Item")
+
+
+def taken_from(items: deque[Item]) -> Iterator[Item]:
     """Takes out one after another, as long as there are any, though another thread may do so too."""
     with contextlib.suppress(IndexError):
         while True:
@@ -856,9 +897,10 @@ def beside_streams(file: int) -> int:
 
 
 def end_with_writers(pipe: int, process: int) -> None:
-    """Has the system kill a process, with its group, that has this end of a pipe, once nobody has the other end any more: so it
-    doesn't outlive the one that started it, whichever way that ends, and in the midst of a search. (The signal that prctl offers comes as
-    soon as the thread has ended that started it, and would take code between fork and exec.)"""
+    """Has the system kill a process, with its group, that has this end of a pipe, once nobody has the other end any
+    more: so it doesn't outlive the one that started it, whichever way that ends, and in the midst of a search. (The
+    signal that prctl offers comes as soon as the thread has ended that started it, and would take code between fork and
+    exec.)"""
     if not hasattr(fcntl, "F_SETSIG"):  # it is Linux that has it
         return
     with contextlib.suppress(ProcessLookupError):
@@ -887,7 +929,7 @@ ANSWERS = {MISUSED: "the library was misused, as by a process that was forked", 
 
 
 @functools.cache
-def loaded(path: str) -> Any:
+def loaded(path: str) -> ctypes.CDLL:
     """The library, with its calls."""
     library = ctypes.CDLL(path)
     for name, takes in CALLS.items():
@@ -896,18 +938,20 @@ def loaded(path: str) -> Any:
     return library
 
 
-def library_path(given: FilePath | None) -> str:
+def library_path(library: FilePath | None) -> str:
     """Where the library is."""
-    if named := given or os.environ.get("REGISTRYD_LIBRARY"):
+    if named := library or os.environ.get("REGISTRYD_LIBRARY"):
         return os.fspath(named)
-    installed = Path(__file__).resolve().parent / "../../../../../lib" / LIBRARY  # from PREFIX/share/registryd/clients/python/registryd
+    # from PREFIX/share/registryd/clients/python/registryd
+    installed = Path(__file__).resolve().parent / "../../../../../lib" / LIBRARY
     return str(installed) if installed.is_file() else LIBRARY
 
 
 class _Embedded:
     """A session in this process, by the calls of the library. One thread at a time is in it."""
 
-    def __init__(self, library: FilePath | None, journal: FilePath | None, load: FilePath | None, save: FilePath | None) -> None:
+    def __init__(self, library: FilePath | None, journal: FilePath | None, load: FilePath | None,
+                 save: FilePath | None) -> None:
         self._library = loaded(library_path(library))
         self._room = ctypes.create_string_buffer(ROOM)
         # how many bytes were taken, and how many are left to take
@@ -930,7 +974,7 @@ class _Embedded:
         self._forget = weakref.finalize(self, self._library.registryd_close, self._number)
         self._forget.atexit = False
 
-    def call(self, request: Request) -> Any:
+    def call(self, request: Request) -> Reply:
         text, fault = self._asked(written(request))
         if fault:
             raise Ended(fault)
@@ -953,11 +997,13 @@ class _Embedded:
             raise RuntimeError("a call of this thread is under way: a signal's handler can't make another")
         return self._alone(lambda: self._exchanged(lines))
 
-    def _alone(self, work: Callable[[], Any], seconds: float | None = None) -> Any:
-        """Does what no two threads do at once. Where a call is broken off between any two steps of this, the lock is given back too."""
+    def _alone(self, work: Callable[[], Item], seconds: float | None = None) -> Item:
+        """Does what no two threads do at once. Where a call is broken off between any two steps of this, the lock is
+        given back too."""
         try:
             if not self._lock.acquire(timeout=-1 if seconds is None else seconds):
-                raise TimeoutError(f"a search of the session still runs after {seconds:g} seconds, and can't be ended in this process")
+                raise TimeoutError(f"a search of the session still runs after {seconds:g} seconds, "
+                                   "and can't be ended in this process")
             done = work()
             self._lock.release()
             return done
@@ -976,7 +1022,7 @@ class _Embedded:
             self._take_left()
         self._is_taken = False
         answered = self._library.registryd_ask(self._number, lines, len(lines), *self._takes)
-        pieces = [] if answered else [self._room[:self._length.value]]
+        pieces = [] if answered else [self._taken()]
         if answered:
             self._fault = self._fault or told_by(answered, self._words())
         if answered or self._left.value:
@@ -988,10 +1034,13 @@ class _Embedded:
         """What is left to take of the last replies."""
         pieces = []
         while self._library.registryd_take(self._number, *self._takes) != MISUSED:
-            pieces.append(self._room[:self._length.value])
+            pieces.append(self._taken())
             if not self._left.value:
                 break
         return pieces
+
+    def _taken(self) -> bytes:
+        return cast(bytes, self._room[:self._length.value])
 
     def _words(self) -> ctypes.Array[ctypes.c_char]:
         words = ctypes.create_string_buffer(MOST_TOLD)

@@ -9,44 +9,53 @@ from __future__ import annotations
 import asyncio
 from typing import Any
 
-from . import Check, Derivation, List, Listing, NoSelection, Pairs, Publish, Registry, Request, Resolve, Selection, Unyank, Yank, _Embedded
+from . import (Accepted, Check, Derivation, List, Listing, NoSelection, Pairs, Publish, Registry, Request, Resolve,
+               Selection, Unyank, Verdict, Yank, _Embedded)
 
 
 class AsyncRegistry:
-    """A session whose calls are awaited. Requests of several tasks are on their way at once, in the order in which they were asked; a
-    session in process answers them in other threads, one by one in any order. A task that is cancelled takes no command back."""
+    """A session whose calls are awaited. Requests of several tasks are on their way at once, in the order in which they
+    were asked; a session in process answers them in other threads, one by one in any order. A task that is cancelled
+    takes no command back."""
 
     def __init__(self, registry: Registry) -> None:
         self._registry = registry
         self._is_embedded = isinstance(registry._session, _Embedded)
 
     @classmethod
-    async def open(cls, *given: Any, **options: Any) -> AsyncRegistry:
+    async def open(cls, *arguments: Any, **options: Any) -> AsyncRegistry:
         """A session with the arguments of `Registry`."""
-        return cls(await asyncio.to_thread(Registry, *given, **options))
+        return cls(await asyncio.to_thread(Registry, *arguments, **options))
 
-    async def ask(self, request: Request) -> Any:
+    async def ask(self, request: Request) -> Any:  # the reply of that request's kind
         """The reply to a request; raises what the call of `Registry` would."""
-        asked = await asyncio.to_thread(self._registry.ask, request) if self._is_embedded else self._registry.ask(request)
-        return await asyncio.wrap_future(asked)
+        ask = self._registry.ask
+        return await asyncio.wrap_future(await asyncio.to_thread(ask, request) if self._is_embedded else ask(request))
 
     async def publish(self, name: str, version: str, needs: Pairs = ()) -> int:
-        return (await self.ask(Publish(name, version, needs))).revision
+        accepted: Accepted = await self.ask(Publish(name, version, needs))
+        return accepted.revision
 
     async def yank(self, name: str, version: str) -> int:
-        return (await self.ask(Yank(name, version))).revision
+        accepted: Accepted = await self.ask(Yank(name, version))
+        return accepted.revision
 
     async def unyank(self, name: str, version: str) -> int:
-        return (await self.ask(Unyank(name, version))).revision
+        accepted: Accepted = await self.ask(Unyank(name, version))
+        return accepted.revision
 
-    async def resolve(self, needs: Pairs, lock: Pairs = (), *, budget: int | None = None, explain: bool = False) -> Selection | NoSelection:
-        return await self.ask(Resolve(needs, lock, budget, explain))
+    async def resolve(self, needs: Pairs, lock: Pairs = (), *, budget: int | None = None,
+                      explain: bool = False) -> Selection | NoSelection:
+        resolved: Selection | NoSelection = await self.ask(Resolve(needs, lock, budget, explain))
+        return resolved
 
     async def check(self, needs: Pairs, derivation: Derivation, lock: Pairs = ()) -> bool:
-        return (await self.ask(Check(needs, derivation, lock))).follows
+        verdict: Verdict = await self.ask(Check(needs, derivation, lock))
+        return verdict.follows
 
     async def list(self) -> Listing:
-        return await self.ask(List())
+        listing: Listing = await self.ask(List())
+        return listing
 
     async def close(self, seconds: float | None = None) -> None:
         await asyncio.to_thread(self._registry.close, seconds)

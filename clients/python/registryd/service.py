@@ -1,8 +1,8 @@
 """A session with a service (`registry serve`), for `Registry(connect=..)`.
 
-Where the connection breaks off, or a program of the service ends, it connects again. What has no reply is asked again; of a
-command it looks up first, in the journal that the service tells, whether it was carried out since the last reply. It does so once the
-service has ended the old connection, and so has no line of it under way any more."""
+Where the connection breaks off, or a program of the service ends, it connects again. What has no reply is asked again;
+of a command it looks up first, in the journal that the service tells, whether it was carried out since the last reply.
+It does so once the service has ended the old connection, and so has no line of it under way any more."""
 from __future__ import annotations
 
 import contextlib
@@ -14,12 +14,14 @@ import time
 from collections import deque
 from collections.abc import Sequence
 
-from . import CLOSED, WAITED, Accepted, Answered, Awaited, Ended, Ending, Futures, Threaded, answer, taken_from, tell_all
+from . import (CLOSED, WAITED, Accepted, Answered, Awaited, Ended, Ending, Futures, Threaded, answer, taken_from,
+               tell_all)
 
 PATIENCE, PAUSE = 10.0, 0.1  # seconds for a service to be there again, and between two tries
 LEAST = 0.001  # seconds to wait at least, since 0 would mean not to wait at all
 PIECE = 65_536  # bytes that are read at once
-UNAVAILABLE = b'{"error":503,"name":"Unavailable",', b'{"error":503,"name":"TooManyClients",'  # the service could not ask a program, or has no room
+# the service could not ask a program, or has no room
+UNAVAILABLE = b'{"error":503,"name":"Unavailable",', b'{"error":503,"name":"TooManyClients",'
 REQUESTS = ("resolve", "check", "list")
 GREETING = b'{"op":"resolve","needs":[]}\n'  # its reply tells the revision
 FENCE = b"{}\n"  # the program that keeps the journal refuses it, once all commands that came before are in the journal
@@ -28,10 +30,12 @@ Line = tuple[bytes, "Awaited | Answered"]  # with what waits for its reply
 
 
 class Connection(Threaded):
-    """A session over a socket, which one thread writes to and another one reads. The address is the socket's path, or HOST:PORT.
+    """A session over a socket, which one thread writes to and another one reads. The address is the socket's path, or
+    HOST:PORT.
 
-    A call may be broken off between any two of its steps: by a key, by what a signal's handler raises, for lack of memory. So all that it
-    does is one step, which queues its lines with what waits for them. The two threads are not broken off."""
+    A call may be broken off between any two of its steps: by a key, by what a signal's handler raises, for lack of
+    memory. So all that it does is one step, which queues its lines with what waits for them. The two threads are not
+    broken off."""
 
     def __init__(self, address: str) -> None:
         self._address = address
@@ -46,7 +50,8 @@ class Connection(Threaded):
         self._is_over = False  # whether what waits is being told that it gets no reply
         self._ending = Ending()  # of the session, once all that waited is told
         self._is_answered = True  # whether anything was, since it connected again
-        self._socket, self._revision = self._opened(time.monotonic() + PATIENCE, GREETING)  # the revision that was told last
+        # the revision is the one that was told last
+        self._socket, self._revision = self._opened(time.monotonic() + PATIENCE, GREETING)
         self._threads = [threading.Thread(target=run, daemon=True) for run in (self._write, self._run)]
         for thread in self._threads:
             thread.start()
@@ -76,8 +81,8 @@ class Connection(Threaded):
     def _break_off(self) -> None:
         """Has the thread that reads come to its end."""
         self._is_killed = True
-        for it in list(self._open):
-            shut(it, socket.SHUT_RDWR)
+        for connection in list(self._open):
+            shut(connection, socket.SHUT_RDWR)
 
     def _ended(self) -> Ended:
         return Ended(CLOSED if self._is_closed else self._fault)
@@ -97,8 +102,8 @@ class Connection(Threaded):
         self._ending.tell()
 
     def _write_queued(self) -> None:
-        """Asks what is queued, and by a connection that is new all that has no reply. Where that fails, the thread that reads finds the
-        connection broken off, and connects again."""
+        """Asks what is queued, and by a connection that is new all that has no reply. Where that fails, the thread that
+        reads finds the connection broken off, and connects again."""
         while (lines := self._lines.get()) is not None:
             with self._lock:
                 self._waiting.extend(lines)
@@ -133,7 +138,8 @@ class Connection(Threaded):
                 break
 
     def _read(self) -> bool:
-        """Gives replies to the lines that wait longest, until the connection breaks off; answers whether it has to be made again."""
+        """Gives replies to the lines that wait longest, until the connection breaks off; answers whether it has to be
+        made again."""
         with contextlib.suppress(OSError), self._socket.makefile("rb") as replies:
             for line in replies:
                 if not line.endswith(b"\n") or not self._waiting or is_unavailable(line):
@@ -150,8 +156,8 @@ class Connection(Threaded):
         return not self._is_killed and (bool(self._waiting) or not self._is_all_asked)
 
     def _has_ended(self, limit: float) -> bool:
-        """Waits until the service has ended the connection, after which no line of it is carried out; answers whether there is none
-        that could be."""
+        """Waits until the service has ended the connection, after which no line of it is carried out; answers whether
+        there is none that could be."""
         shut(self._socket, socket.SHUT_WR)
         try:
             while True:
@@ -201,7 +207,7 @@ class Connection(Threaded):
         """Asks by another connection what is not known."""
         settled = {id(future) for future, _ in known}
         with self._lock:
-            self._waiting = deque(it for it in self._waiting if id(it[1]) not in settled)
+            self._waiting = deque((line, future) for line, future in self._waiting if id(future) not in settled)
             self._socket, self._is_new = connection, True
         self._lines.put([])
         for future, revision in known:
@@ -255,7 +261,8 @@ def connect(address: str, seconds: float) -> socket.socket:
     host, colon, port = address.rpartition(":")
     if colon and "/" not in address and port.isdigit():
         connection = socket.create_connection((host.strip("[]"), int(port)), seconds)
-        connection.setsockopt(socket.IPPROTO_TCP, socket.TCP_NODELAY, 1)  # a line is not held back until the one before is known to have come
+        # a line is not held back until the one before is known to have come
+        connection.setsockopt(socket.IPPROTO_TCP, socket.TCP_NODELAY, 1)
         return connection
     connection = socket.socket(socket.AF_UNIX)
     try:

@@ -1,8 +1,8 @@
-"""Why no selection meets a request, as a tree that a program can walk: each node follows from two others, or from nothing else. And in
-sentences, as the reporter of PubGrub tells it.
+"""Why no selection meets a request, as a tree that a program can walk: each node follows from two others, or from
+nothing else. And in sentences, as the reporter of PubGrub tells it.
 
-Of several nodes that rest on the same one, each has that same object. Versions are told by their texts, and one that is not published by
-`#` and its number among the publications."""
+Of several nodes that rest on the same one, each has that same object. Versions are told by their texts, and one that is
+not published by `#` and its number among the publications."""
 from __future__ import annotations
 
 import re
@@ -15,7 +15,8 @@ MOST_NAMED = 4  # of a set of more versions three are named
 NAME = "[a-z][a-z0-9_-]*"
 LINE = re.compile(r"\d+\. never \((.*?)\), because (.*)")
 TERM = re.compile(rf"(not )?(the request|{NAME})(?: \{{([^}}]*)\}})?(?:, |$)")
-CAUSE = re.compile(rf'line (?P<line>\d+)|(?P<root>the request must be met)|(?P<package>the request|{NAME})(?: \{{(?P<versions>[^}}]*)\}})? '
+CAUSE = re.compile(rf'line (?P<line>\d+)|(?P<root>the request must be met)|'
+                   rf'(?P<package>the request|{NAME})(?: \{{(?P<versions>[^}}]*)\}})? '
                    rf'(?:needs (?P<target>{NAME}) "(?P<requirement>[^"]*)" in \{{(?P<within>[^}}]*)\}}|is not allowed)')
 PLAIN = re.compile(r"[~^][^ ,]*|\*")  # a requirement that looks like no range of versions
 
@@ -26,8 +27,8 @@ class External:
 
     root        the request must be met
     need        the request needs the package `target` in a version that meets `requirement`: those `within`
-    premise     the `versions` of `package` need `target` in a version that meets `requirement`: of its versions those `within` may
-    disallowed  the `versions` of `package` are yanked and not in the lock, or not published"""
+    premise the `versions` of `package` need `target` in a version that meets `requirement`: of its versions those
+    `within` may disallowed the `versions` of `package` are yanked and not in the lock, or not published"""
     kind: str
     package: str = REQUEST
     versions: tuple[str, ...] = ()
@@ -38,8 +39,9 @@ class External:
 
 @dataclass(frozen=True, eq=False)
 class Derived:
-    """What follows from two causes: that these terms can't all hold. A term says of a package, or of the request by the empty name,
-    that its version is one of some (True), or is none of them (False). The number counts the steps of the explanation."""
+    """What follows from two causes: that these terms can't all hold. A term says of a package, or of the request by the
+    empty name, that its version is one of some (True), or is none of them (False). The number counts the steps of the
+    explanation."""
     number: int
     terms: Mapping[str, tuple[bool, tuple[str, ...]]]
     causes: tuple[Node, Node] = field(repr=False)
@@ -55,9 +57,11 @@ class Derived:
         return [found[number] for number in sorted(found)]
 
     def sentences(self) -> list[str]:
-        """A sentence for each step. One that begins with "And" follows from the one before it, too; one that others cite has a number."""
+        """A sentence for each step. One that begins with "And" follows from the one before it, too; one that others
+        cite has a number."""
         steps = self.steps()
-        cited = {cause.number for step in steps for cause in step.causes if isinstance(cause, Derived) and cause.number != step.number - 1}
+        cited = {cause.number for step in steps for cause in step.causes
+                 if isinstance(cause, Derived) and cause.number != step.number - 1}
         numbers = {number: f" ({place})" for place, number in enumerate(sorted(cited), 1)}
         return [sentence(step, numbers) for step in steps]
 
@@ -97,7 +101,8 @@ def cause_of(found: re.Match[str], nodes: Sequence[Derived]) -> Node:
     package, versions = package_of(found["package"]), set_of(found["versions"])
     if found["target"] is None:
         return External("disallowed", package, versions)
-    return External("premise" if package else "need", package, versions, found["target"], found["requirement"], set_of(found["within"]))
+    kind = "premise" if package else "need"
+    return External(kind, package, versions, found["target"], found["requirement"], set_of(found["within"]))
 
 
 def package_of(name: str) -> str:
@@ -134,7 +139,8 @@ def reasons_of(cause: Node, before: int, numbers: Mapping[int, str]) -> Iterator
 
 def conclusion(terms: Mapping[str, tuple[bool, tuple[str, ...]]]) -> str:
     """What it means that these terms can't all hold."""
-    if not all(versions or name == REQUEST for name, (is_in, versions) in terms.items() if is_in) or terms.get(REQUEST, (True, ())) != (True, ()):
+    can_hold = all(versions or name == REQUEST for name, (is_in, versions) in terms.items() if is_in)
+    if not can_hold or terms.get(REQUEST, (True, ())) != (True, ()):
         return "nothing is said"  # one of them holds of no choice
     inside = [some(name, versions) for name, (is_in, versions) in terms.items() if is_in and name]
     wanted = " or ".join(some(name, versions) for name, (is_in, versions) in terms.items() if not is_in and versions)
@@ -154,7 +160,8 @@ def some(package: str, versions: Sequence[str]) -> str:
         return "the request"
     if not versions:
         return f"no version of {package}"
-    named = versions if len(versions) <= MOST_NAMED else (*versions[:MOST_NAMED - 1], f"{len(versions) - MOST_NAMED + 1} others")
+    others = f"{len(versions) - MOST_NAMED + 1} others"
+    named = versions if len(versions) <= MOST_NAMED else (*versions[:MOST_NAMED - 1], others)
     return f"{package} {listed(named, 'or')}"
 
 

@@ -2,11 +2,16 @@
 from __future__ import annotations
 
 import json
-from typing import Any, NamedTuple
+from typing import TYPE_CHECKING, NamedTuple
 
 from . import placed_json
 from .fault import Bad, Fault
 from .judging import faults
+
+if TYPE_CHECKING:
+    from collections.abc import Iterable
+
+    from .placed_json import Value
 
 BAD_LINE = 19
 # what the registry has found of the version that a line names, by the number of the refusal
@@ -14,8 +19,9 @@ FOUND = {7: "is published already", 11: "is not published", 12: "is yanked alrea
 
 
 class Culprit(NamedTuple):
-    """What a line is refused for. `where` names its member, as `version` or `needs[3]`, or is empty for the line as a whole; `package` is the
-    package that this is about, and `text` what stands there. `meant` is what was probably meant, where there is telling."""
+    """What a line is refused for. `where` names its member, as `version` or `needs[3]`, or is empty for the line as a
+    whole; `package` is the package that this is about, and `text` what stands there. `meant` is what was probably
+    meant, where there is telling."""
     where: str
     package: str
     text: str
@@ -23,7 +29,7 @@ class Culprit(NamedTuple):
     meant: str | None = None
 
     def __str__(self) -> str:
-        place = ", ".join(it for it in (self.where, self.package) if it) if self.where else ""
+        place = ", ".join(part for part in (self.where, self.package) if part) if self.where else ""
         return f"{place}: {self.told}" if place else self.told
 
 
@@ -33,8 +39,8 @@ def culprit(number: int, line: bytes) -> Culprit | None:
         asked = json.loads(line)
         named = f"{asked['name']} {asked['version']}"
         return Culprit("", asked["name"], asked["version"], f"{named} {FOUND[number]}")
-    fault = next((it for it in faults(line) if it.number == number), None)
-    return fault and culprit_of(fault, line)
+    fault = next((fault for fault in faults(line) if fault.number == number), None)
+    return culprit_of(fault, line) if fault else None
 
 
 def culprit_of(fault: Fault, line: bytes) -> Culprit:
@@ -48,17 +54,22 @@ def culprit_of(fault: Fault, line: bytes) -> Culprit:
     return Culprit(where, package, text, fault.told, meant(fault))
 
 
-def descended(value: Any, place: int) -> tuple[str, str, Any]:
-    """The member and the item of it that has a place of the line, the package that it is about, and the innermost value there."""
+def descended(value: Value, place: int) -> tuple[str, str, Value]:
+    """The member and the item of it that has a place of the line, the package that it is about, and the innermost value
+    there."""
     where, package = "", ""
     while isinstance(value.held, (dict, list)):
-        parts = value.held.items() if isinstance(value.held, dict) else enumerate(value.held)
-        within = next(((key, it) for key, it in parts if it.start <= place < it.end), None)
+        parts: Iterable[tuple[str | int, Value]]
+        if isinstance(value.held, dict):
+            parts = value.held.items()
+        else:
+            parts = enumerate(value.held)
+        within = next(((key, part) for key, part in parts if part.start <= place < part.end), None)
         if within is None:
             break
         key, part = within
-        if isinstance(key, str) and not where:
-            where, package = key, text_of(value.held.get("name"))
+        if isinstance(value.held, dict) and not where:
+            where, package = str(key), text_of(value.held.get("name"))
         elif where in ("needs", "lock", "derivation"):
             where += f"[{key}]"
             package = text_of(part.held[0]) if isinstance(part.held, list) and part.held else ""
@@ -66,7 +77,7 @@ def descended(value: Any, place: int) -> tuple[str, str, Any]:
     return where, package, value
 
 
-def text_of(value: Any) -> str:
+def text_of(value: Value | None) -> str:
     return value.held if value is not None and isinstance(value.held, str) else ""
 
 

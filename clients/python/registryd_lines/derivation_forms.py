@@ -1,22 +1,29 @@
-"""The forms of derivations, as a check line has them: see "Derivations" in docs/FORMATS.md. Their names and numbers belong to
-their form, so what is wrong in them is answered 19 too."""
+"""The forms of derivations, as a check line has them: see "Derivations" in docs/FORMATS.md. Their names and numbers
+belong to their form, so what is wrong in them is answered 19 too."""
+from __future__ import annotations
+
 import json
+from typing import TYPE_CHECKING
 
 from .fault import shown
 from .forms import KINDS, Forms, listed
 from .nearest import nearest
 from .texts import name_fault
 
+if TYPE_CHECKING:
+    from .forms import Form
+    from .placed_json import Value
+
 CAUSE = 'a cause, as {"line":1} or {"fact":"root"}'
 TERM = 'a term, as ["a",true,[0]]'
 
 
-def derivation(forms, value, whose):
+def derivation(forms: Forms, value: Value, whose: str) -> None:
     for line in forms.items(value, whose, "an array of lines"):
         forms.object(line, "a line of a derivation", {"causes": causes, "conclusion": conclusion, "pivot": whose_name})
 
 
-def causes(forms, value, whose):
+def causes(forms: Forms, value: Value, whose: str) -> None:
     held = forms.items(value, whose, "an array of two causes")
     if isinstance(value.held, list) and len(held) != 2:
         forms.fault(value.start, f"a line of a derivation has two causes, not {len(held)}")
@@ -24,7 +31,7 @@ def causes(forms, value, whose):
         cause(forms, item)
 
 
-def cause(forms, value):
+def cause(forms: Forms, value: Value) -> None:
     """A line or a fact, which the member `fact` tells."""
     if not isinstance(value.held, dict):
         forms.wrong(value, "a cause", CAUSE)
@@ -36,18 +43,19 @@ def cause(forms, value):
         fact(forms, value, value.held["fact"])
 
 
-def fact(forms, value, kind):
+def fact(forms: Forms, value: Value, kind: Value) -> None:
     if not isinstance(kind.held, str):
         forms.wrong(kind, '"fact"', "a text in quotes")
     elif kind.held not in FACTS:
         meant = nearest(kind.held, FACTS)
-        forms.fault(kind.start, f"there is no fact {shown(kind.held)}" + ("" if meant else f": it is {listed(FACTS, 'or')}"),
-                    meant and (kind.start, kind.end, json.dumps(meant)))
+        rest = "" if meant else f": it is {listed(FACTS, 'or')}"
+        forms.fault(kind.start, f"there is no fact {shown(kind.held)}{rest}",
+                    (kind.start, kind.end, json.dumps(meant)) if meant else None)
     else:
         forms.object(value, f"the fact {shown(kind.held)}", {"fact": Forms.text_member, **FACTS[kind.held]})
 
 
-def conclusion(forms, value, whose):
+def conclusion(forms: Forms, value: Value, whose: str) -> None:
     for item in forms.items(value, whose, "an array of terms"):
         held = item.held
         if not isinstance(held, list) or len(held) != 3:
@@ -59,7 +67,7 @@ def conclusion(forms, value, whose):
         ordinals(forms, held[2], "the set of a term")
 
 
-def ordinals(forms, value, whose):
+def ordinals(forms: Forms, value: Value, whose: str) -> None:
     """An array of whole numbers that rise."""
     before = len(forms.faults)
     items = forms.items(value, whose, "an array of ordinals, as [0,1]")
@@ -67,15 +75,16 @@ def ordinals(forms, value, whose):
         forms.whole(item, f"an ordinal of {whose}")
     if len(forms.faults) > before:
         return
-    for low, high in zip(items, items[1:]):
-        if low.held >= high.held:
-            rising = sorted({it.held for it in items})
-            forms.fault(high.start, f"the ordinals of {whose} rise, and {high.held} stands behind {low.held}",
+    numbers = [item.held for item in items if isinstance(item.held, int)]
+    for low, high, item in zip(numbers, numbers[1:], items[1:]):
+        if low >= high:
+            rising = sorted(set(numbers))
+            forms.fault(item.start, f"the ordinals of {whose} rise, and {high} stands behind {low}",
                         (value.start, value.end, json.dumps(rising, separators=(",", ":"))))
             return
 
 
-def name(forms, value, whose):
+def name(forms: Forms, value: Value, whose: str) -> None:
     """A package's name."""
     if not isinstance(value.held, str):
         forms.fault(value.start, f"{whose} is a package name, not {KINDS[type(value.held)]}")
@@ -85,13 +94,14 @@ def name(forms, value, whose):
         forms.fault(value.start, f"{whose}: {bad.what}")
 
 
-def whose_name(forms, value, whose):
+def whose_name(forms: Forms, value: Value, whose: str) -> None:
     """A package's name, or the empty text for the request."""
     if value.held != "":
         name(forms, value, whose)
 
 
-
 # by the word of a fact its other members
-FACTS = {"root": {}, "need": {"index": Forms.whole}, "disallowed": {"name": name, "versions": ordinals},
-         "premise": {"name": name, "need": Forms.text_member, "target": whose_name, "versions": ordinals, "within": ordinals}}
+FACTS: dict[str, dict[str, Form]] = {
+    "root": {}, "need": {"index": Forms.whole}, "disallowed": {"name": name, "versions": ordinals},
+    "premise": {"name": name, "need": Forms.text_member, "target": whose_name, "versions": ordinals,
+                "within": ordinals}}

@@ -1,4 +1,7 @@
-"""What people write where JSON wants something else, told with what they probably meant. Each function answers a Bad."""
+"""What people write where JSON wants something else, told with what they probably meant. Each function answers a
+Bad."""
+from __future__ import annotations
+
 import json
 import re
 import unicodedata
@@ -13,7 +16,7 @@ CLOSING = {"{": "}", "[": "]"}
 KINDS = {"{": "object", "[": "array"}
 
 
-def no_value(text, at):
+def no_value(text: str, at: int) -> Bad:
     """Where a value should begin and none does."""
     first = text[at:at + 1]
     if not first:
@@ -36,7 +39,7 @@ def no_value(text, at):
     return Bad(at, f"no value begins with {shown(first)}")
 
 
-def quoted_otherwise(text, at):
+def quoted_otherwise(text: str, at: int) -> Bad:
     """A text in quotes that are not JSON's."""
     end = text.find(OPENING[text[at]], at + 1)
     edit = (at, end + 1, json.dumps(text[at + 1:end], ensure_ascii=False)) if end > 0 else None
@@ -44,7 +47,7 @@ def quoted_otherwise(text, at):
     return Bad(at, f"a text must be in {told}", edit)
 
 
-def bare_word(at, word):
+def bare_word(at: int, word: str) -> Bad:
     """A word without quotes."""
     literal = LITERALS.get(word.lower())
     if literal:
@@ -54,7 +57,7 @@ def bare_word(at, word):
     return Bad(at, f"the text {shown(word)[1:-1]} has no quotes", (at, at + len(word), json.dumps(word)))
 
 
-def strange(text, at):
+def strange(text: str, at: int) -> Bad | None:
     """What stands in a line where nothing may, or none."""
     first = text[at:at + 1]
     if first == "\ufeff":
@@ -66,7 +69,7 @@ def strange(text, at):
     return None
 
 
-def no_name(text, at):
+def no_name(text: str, at: int) -> Bad:
     """Where a member's name should begin."""
     first = text[at:at + 1]
     if not first:
@@ -81,23 +84,26 @@ def no_name(text, at):
     return strange(text, at) or Bad(at, f"a member begins with its name in double quotes, not with {shown(first)}")
 
 
-def no_colon(text, end, at):
+def no_colon(text: str, end: int, at: int) -> Bad:
     """What stands between a name, which ended, and a value."""
     if at == len(text):
         return Bad(at, "the line ends after the name of a member")
     if text[at] == "=":
-        return Bad(at, "expected a colon between a name and its value, not =", (at, at + 2 if text.startswith("=>", at) else at + 1, ":"))
+        behind = at + 2 if text.startswith("=>", at) else at + 1
+        return Bad(at, "expected a colon between a name and its value, not =", (at, behind, ":"))
     if text[at] in ",}":
         return Bad(end, "this member has a name and no value")
     return strange(text, at) or Bad(end, "a colon is missing between a name and its value", (end, end, ":"))
 
 
-def no_comma(text, opened, end, at):
-    """What stands behind an item or a member, which ended, of what was opened, where a comma or the closing bracket should."""
+def no_comma(text: str, opened: int, end: int, at: int) -> Bad:
+    """What stands behind an item or a member, which ended, of what was opened, where a comma or the closing bracket
+    should."""
     bracket = text[opened]
     if at == len(text):
         kind = f"the {KINDS[bracket]} that begins at column {opened + 1}"
-        return Bad(at, f"the line ends and {kind} is not closed: a request must be on one line", (end, end, CLOSING[bracket]))
+        return Bad(at, f"the line ends and {kind} is not closed: a request must be on one line",
+                   (end, end, CLOSING[bracket]))
     first = text[at]
     if first in "]}":
         return Bad(at, f"{first} closes what {bracket} opened at column {opened + 1}", (at, at + 1, CLOSING[bracket]))
@@ -110,7 +116,7 @@ def no_comma(text, opened, end, at):
     return strange(text, at) or Bad(at, f"a comma or {CLOSING[bracket]} is expected here, not {shown(first)}")
 
 
-def no_letter(text, opened, at):
+def no_letter(text: str, opened: int, at: int) -> Bad:
     """What a text in quotes may not have as it stands."""
     if at == len(text):
         return Bad(opened, "this text has no closing quote")
@@ -118,7 +124,7 @@ def no_letter(text, opened, at):
                (at, at + 1, json.dumps(text[at])[1:-1]))
 
 
-def no_escape(text, at):
+def no_escape(text: str, at: int) -> Bad:
     """A backslash with something behind it that makes no escape."""
     behind = text[at + 1:at + 2]
     if not behind:
@@ -128,13 +134,13 @@ def no_escape(text, at):
     return Bad(at, f"\\{behind if behind.isprintable() else ''} is no escape of JSON", (at, at + 1, "\\\\"))
 
 
-def behind_the_value(text, at, whose):
+def behind_the_value(text: str, at: int, whose: str) -> Bad:
     """What stands behind the whole value of a line or a file."""
-    of = {"line": "request", "file": "lock"}[whose]
+    held = {"line": "request", "file": "lock"}[whose]
     if text[at] == ",":
         return Bad(at, f"{whose}s are not separated by commas", (at, at + 1, ""))
     if text[at] in "]}":
         return Bad(at, f"one {text[at]} too many", (at, at + 1, ""))
     if text[at] in '"{[' or text[at].isalnum():
-        return Bad(at, f"there is something after the {of}: each {whose} has one {of}")
-    return strange(text, at) or Bad(at, f"{shown(text[at])} can't follow the {of}")
+        return Bad(at, f"there is something after the {held}: each {whose} has one {held}")
+    return strange(text, at) or Bad(at, f"{shown(text[at])} can't follow the {held}")

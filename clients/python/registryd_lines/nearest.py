@@ -1,13 +1,19 @@
 """The name that was probably meant by one that is not there."""
+from __future__ import annotations
+
+TYPE_CHECKING = False  # as that of typing, which costs the command `registry` milliseconds at its start
+if TYPE_CHECKING:
+    from collections.abc import Iterable
 
 
-def nearest(word, words, most=2):
-    """Of the words the one that is fewest edits away: a letter put in, left out or replaced, or two neighbours swapped. Capitals
-    don't count. None where each takes more than `most` edits, or more than a third of the letters; of several the first in
-    alphabetical order."""
+def nearest(word: str, words: Iterable[str], most: int = 2) -> str | None:
+    """Of the words the one that is fewest edits away: a letter put in, left out or replaced, or two neighbours swapped.
+    Capitals don't count. None where each takes more than `most` edits, or more than a third of the letters; of several
+    the first in alphabetical order."""
     asked = word.lower()
     allowed = min(most, max(len(asked), 3) // 3)
-    letters, found = set(asked), None
+    letters = set(asked)
+    found: tuple[int, str] | None = None
     for other in words:
         # most words are ruled out by their length or their letters: an edit changes at most two of those
         if abs(len(other) - len(asked)) > allowed or len(letters.symmetric_difference(other.lower())) > 2 * allowed:
@@ -18,12 +24,13 @@ def nearest(word, words, most=2):
     return found[1] if found else None
 
 
-def distance(one, other, most):
+def distance(one: str, other: str, most: int) -> int:
     """How many edits lead from one word to the other; a number above `most` where it takes more than that."""
     one, other = apart(one, other)
-    one, other = (it[::-1] for it in apart(one[::-1], other[::-1]))
+    one, other = (rest[::-1] for rest in apart(one[::-1], other[::-1]))
     beyond = most + 1
-    before, row = None, list(range(len(other) + 1))
+    before: list[int] = []
+    row = list(range(len(other) + 1))
     for place, letter in enumerate(one, 1):
         earlier, before, row = before, row, [place] + [beyond] * len(other)
         # so many edits lead no further apart
@@ -37,7 +44,8 @@ def distance(one, other, most):
     return row[-1]
 
 
-def apart(one, other):
+def apart(one: str, other: str) -> tuple[str, str]:
     """Two words without the beginning that they share."""
-    place = next((place for place, (letter, another) in enumerate(zip(one, other)) if letter != another), min(len(one), len(other)))
+    shared = min(len(one), len(other))
+    place = next((place for place in range(shared) if one[place] != other[place]), shared)
     return one[place:], other[place:]

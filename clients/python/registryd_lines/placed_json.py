@@ -1,12 +1,22 @@
 """JSON as the program reads it, which is as the crate `serde_json` does, with the place of each value in its text.
 
-Python's own reader tells no places, and reads what the program does not: NaN, halves of a pair of surrogates, numbers out of
-range, what nests without an end.
+Python's own reader tells no places, and reads what the program does not: NaN, halves of a pair of surrogates, numbers
+out of range, what nests without an end.
 """
+from __future__ import annotations
+
 import re
+from typing import TYPE_CHECKING
 
 from . import json_slips
 from .fault import Bad
+from .texts import past
+
+if TYPE_CHECKING:
+    from collections.abc import Callable
+    from typing import Union
+
+    Held = Union[str, bool, int, float, list["Value"], dict[str, "Value"], None]
 
 MOST_DEPTH = 127
 SPACE = re.compile(r"[ \t\n\r]*")
@@ -18,15 +28,30 @@ WORDS = {"true": True, "false": False, "null": None}
 
 
 class Value:
-    """A value and where it stands in the text. An array holds values; an object holds values by name, and has the places of the
-    names beside them."""
+    """A value and where it stands in the text. An array holds values; an object holds values by name, and has the
+    places of the names beside them. `text`, `items` and `members` are for who knows which of them it is."""
     __slots__ = ("held", "start", "end", "names")
 
-    def __init__(self, held, start, end, names=None):
-        self.held, self.start, self.end, self.names = held, start, end, names
+    def __init__(self, held: Held, start: int, end: int, names: dict[str, Value] | None = None) -> None:
+        self.held, self.start, self.end, self.names = held, start, end, names or {}
+
+    @property
+    def text(self) -> str:
+        assert isinstance(self.held, str)
+        return self.held
+
+    @property
+    def items(self) -> list[Value]:
+        assert isinstance(self.held, list)
+        return self.held
+
+    @property
+    def members(self) -> dict[str, Value]:
+        assert isinstance(self.held, dict)
+        return self.held
 
 
-def read(text, whose="line"):
+def read(text: str, whose: str = "line") -> Value:
     """The value of a text, or Bad."""
     reader = Reader(text)
     value = reader.value(reader.space(0))
@@ -36,26 +61,27 @@ def read(text, whose="line"):
     return value
 
 
-def place_in(text, value, index):
-    """Where in a text the letter of a string value stands that has this index; one past the last stands at its closing quote."""
+def place_in(text: str, value: Value, index: int) -> int:
+    """Where in a text the letter of a string value stands that has this index; one past the last stands at its closing
+    quote."""
     place = value.start + 1
     for _ in range(index):
         if place >= value.end - 1:
             break
-        _, place = Reader(text).letter(place) if text[place] == "\\" else (None, place + 1)
+        place = Reader(text).letter(place)[1] if text[place] == "\\" else place + 1
     return place
 
 
 class Reader:
     """Reads values of one text; each method takes the place where something begins."""
 
-    def __init__(self, text):
+    def __init__(self, text: str) -> None:
         self.text, self.depth = text, 0
 
-    def space(self, at):
-        return SPACE.match(self.text, at).end()
+    def space(self, at: int) -> int:
+        return past(SPACE, self.text, at)
 
-    def value(self, at):
+    def value(self, at: int) -> Value:
         first = self.text[at:at + 1]
         if first == '"':
             return self.string(at)
@@ -71,7 +97,7 @@ class Reader:
             return Value(self.number(found), at, found.end())
         raise json_slips.no_value(self.text, at)
 
-    def nested(self, at, read_inside):
+    def nested(self, at: int, read_inside: Callable[[int], Value]) -> Value:
         self.depth += 1
         if self.depth > MOST_DEPTH:
             raise Bad(at, f"more than {MOST_DEPTH} brackets are open")
@@ -79,8 +105,9 @@ class Reader:
         self.depth -= 1
         return value
 
-    def array(self, at):
-        items, place = [], self.space(at + 1)
+    def array(self, at: int) -> Value:
+        items: list[Value] = []
+        place = self.space(at + 1)
         if self.text.startswith("]", place):
             return Value(items, at, place + 1)
         while True:
@@ -90,8 +117,10 @@ class Reader:
                 return Value(items, at, place + 1)
             place = self.behind_comma(at, items[-1].end, place)
 
-    def object(self, at):
-        members, names, place = {}, {}, self.space(at + 1)
+    def object(self, at: int) -> Value:
+        members: dict[str, Value] = {}
+        names: dict[str, Value] = {}
+        place = self.space(at + 1)
         if self.text.startswith("}", place):
             return Value(members, at, place + 1, names)
         while True:
@@ -102,14 +131,14 @@ class Reader:
             if not self.text.startswith(":", place):
                 raise json_slips.no_colon(self.text, name.end, place)
             # a member that comes twice is the one that comes last
-            names[name.held], members[name.held] = name, self.value(self.space(place + 1))
-            end = members[name.held].end
+            names[name.text], members[name.text] = name, self.value(self.space(place + 1))
+            end = members[name.text].end
             place = self.space(end)
             if self.text.startswith("}", place):
                 return Value(members, at, place + 1, names)
             place = self.behind_comma(at, end, place)
 
-    def behind_comma(self, opened, end, place):
+    def behind_comma(self, opened: int, end: int, place: int) -> int:
         """Where the next item or member of what was opened begins, behind the one that ended."""
         if not self.text.startswith(",", place):
             raise json_slips.no_comma(self.text, opened, end, place)
@@ -118,7 +147,7 @@ class Reader:
             raise Bad(place, "there is a trailing comma", (place, place + 1, ""))
         return behind
 
-    def number(self, found):
+    def number(self, found: re.Match[str]) -> int | float:
         whole = not (found[1] or found[2]) and found[0] != "-0" and len(found[0]) <= 20
         if whole and -2 ** 63 <= int(found[0]) < 2 ** 64:
             return int(found[0])
@@ -127,12 +156,12 @@ class Reader:
             raise Bad(found.start(), "this number is out of range")
         return number
 
-    def string(self, at):
+    def string(self, at: int) -> Value:
         parts, place = [], at + 1
         while True:
-            plain = PLAIN.match(self.text, place)
-            parts.append(plain[0])
-            place = plain.end()
+            end = past(PLAIN, self.text, place)
+            parts.append(self.text[place:end])
+            place = end
             stop = self.text[place:place + 1]
             if stop == '"':
                 return Value("".join(parts), at, place + 1)
@@ -141,7 +170,7 @@ class Reader:
             letter, place = self.letter(place)
             parts.append(letter)
 
-    def letter(self, at):
+    def letter(self, at: int) -> tuple[str, int]:
         """The letter of an escape, and where that ends."""
         plain = ESCAPES.get(self.text[at + 1:at + 2])
         if plain:
@@ -156,7 +185,7 @@ class Reader:
             raise Bad(at, "the first half of a pair of surrogates has no second one after it")
         return chr(0x10000 + ((first - 0xd800) << 10) + (second - 0xdc00)), at + 12
 
-    def unit(self, at):
+    def unit(self, at: int) -> int:
         found = UNIT.match(self.text, at)
         if not found:
             raise json_slips.no_escape(self.text, at)

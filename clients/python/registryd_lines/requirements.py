@@ -1,11 +1,13 @@
-"""The rules of requirements, as the crate `semver` reads what The Cargo Book tells: where a text breaks them, and what was
-probably meant, where another tool's requirement can be told in Cargo's way."""
+"""The rules of requirements, as the crate `semver` reads what The Cargo Book tells: where a text breaks them, and what
+was probably meant, where another tool's requirement can be told in Cargo's way."""
+from __future__ import annotations
+
 import re
 from functools import lru_cache
 
 from .fault import Bad, shown
 from .limits import MOST_REQUIREMENT_BYTES
-from .texts import fault_of, number, tail, whole
+from .texts import fault_of, number, past, tail, whole
 
 MOST_COMPARATORS = 32
 SIGNS = re.compile(r"[=<>~^!|&]+")
@@ -16,20 +18,20 @@ ABROAD = {"~>": "Ruby", "~=": "Python", "==": "Python", "!=": "Python", "||": "n
 
 
 @lru_cache(maxsize=100_000)
-def requirement_fault(text):
+def requirement_fault(text: str) -> Bad | None:
     bad = fault_of(read_requirement, text)
-    return bad and Bad(bad.place, bad.what, whole(text, requirement_meant(text)))
+    return Bad(bad.place, bad.what, whole(text, requirement_meant(text))) if bad else None
 
 
-def read_requirement(text):
+def read_requirement(text: str) -> None:
     """Reads a requirement: a wildcard alone, or comparators that commas part."""
     if len(text.encode()) > MOST_REQUIREMENT_BYTES:
         raise Bad(0, f"a requirement of {len(text.encode())} bytes; the limit is {MOST_REQUIREMENT_BYTES}")
-    at = SPACES.match(text).end()
+    at = past(SPACES, text, 0)
     if at == len(text):
         raise Bad(at, "a requirement is empty")
     if text[at] in WILDCARDS:
-        behind = SPACES.match(text, at + 1).end()
+        behind = past(SPACES, text, at + 1)
         if behind < len(text):
             raise Bad(behind, f"{shown(text[at])} must be the whole requirement, with nothing after it")
         return
@@ -39,17 +41,17 @@ def read_requirement(text):
             return
         if text[at] != ",":
             raise no_comma(text, at)
-        at = SPACES.match(text, at + 1).end()
+        at = past(SPACES, text, at + 1)
     raise Bad(at, f"a requirement of more than {MOST_COMPARATORS} comparators")
 
 
-def comparator(text, at):
+def comparator(text: str, at: int) -> int:
     """Reads an operator, one to three numbers and what may stand behind them, and answers where it ends."""
     signs = SIGNS.match(text, at)
     found = OPERATOR.match(text, at)
     if signs and (not found or found[0] != signs[0]):
         raise unknown_operator(at, signs[0])
-    at = SPACES.match(text, found.end() if found else at).end()
+    at = past(SPACES, text, found.end() if found else at)
     first = text[at:at + 1]
     if first in ("", ","):
         raise Bad(at, f"a comparator of the requirement {shown(text)} is missing" if not found
@@ -68,17 +70,18 @@ def comparator(text, at):
             at = number(text, at + 1, part, "requirement")
     if not parts and not is_wild:
         at = tail(text, at)
-    return SPACES.match(text, at).end()
+    return past(SPACES, text, at)
 
 
-def unknown_operator(at, signs):
+def unknown_operator(at: int, signs: str) -> Bad:
     whose = f" of {ABROAD[signs[:2]]}" if signs[:2] in ABROAD else ""
     if signs[0] == "|":
-        return Bad(at, f"the operator {signs}{whose} is not one of Cargo's, which has no \"or\": all comparators of a requirement must hold")
+        return Bad(at, f"the operator {signs}{whose} is not one of Cargo's, which has no \"or\": "
+                   "all comparators of a requirement must hold")
     return Bad(at, f"the operator {signs}{whose} is not one of Cargo's, which are ^ ~ = > >= < <=")
 
 
-def no_comma(text, at):
+def no_comma(text: str, at: int) -> Bad:
     """What stands behind a comparator that is whole."""
     signs = SIGNS.match(text, at)
     if signs and signs[0][0] in "|&!":
@@ -86,7 +89,8 @@ def no_comma(text, at):
     if text[at] == "-" and text.startswith(" ", at - 1):
         return Bad(at, "the operator - of npm, a range, is not one of Cargo's")
     if text[at] in "-+":
-        return Bad(at, f"a pre-release or build metadata needs three numbers before it, as in 1.2.0{text[at]}rc, not in {shown(text)}")
+        return Bad(at, "a pre-release or build metadata needs three numbers before it, "
+                   f"as in 1.2.0{text[at]}rc, not in {shown(text)}")
     if text[at] == ".":
         return Bad(at, f"a comparator of the requirement {shown(text)} has more than three numbers")
     if text[at - 1] == " " or signs:
@@ -97,14 +101,16 @@ def no_comma(text, at):
 # ---- what was probably meant
 
 ANYTHING = ("", "latest", "any", "all", "newest")
-SAME = {"=>": ">=", "=<": "<=", "==": "=", "===": "=", "<<": "<", ">>": ">", "≥": ">=", "≤": "<=", "^=": "^", "~=": "~>"}
+SAME = {"=>": ">=", "=<": "<=", "==": "=", "===": "=", "<<": "<", ">>": ">", "≥": ">=", "≤": "<=", "^=": "^",
+        "~=": "~>"}
 WHOLE = re.compile(r"([=<>~^]*) *[vV]?(\d+)(?:\.(\d+|[xX*]))?(?:\.(\d+|[xX*]))?"
                    r"(?:[-.]?([A-Za-z][0-9A-Za-z.-]*|-[0-9A-Za-z.-]+))?(?:\+[0-9A-Za-z.-]+)?", re.ASCII)
 BETWEEN = re.compile(r"(?<=[0-9A-Za-z*]) +(?=[=<>~^vV\d])")
+CARET = re.compile(r"\^?(\d+)(?:\.(\d+))?(?:\.(\d+))?(?:\.[xX*])?", re.ASCII)
 INTERVAL = re.compile(r"([\[(]) *([^,\[\]()]*) *, *([^,\[\]()]*) *([\])])")
 
 
-def requirement_meant(text):
+def requirement_meant(text: str) -> str | None:
     """A requirement that Cargo reads for one that it does not; none where there is no telling."""
     if len(text) > MOST_REQUIREMENT_BYTES:
         return None
@@ -115,16 +121,17 @@ def requirement_meant(text):
     return made if made and not fault_of(read_requirement, made) else None
 
 
-def every(plain):
+def every(plain: str) -> str | None:
     """Comparators that all must hold, parted in some way."""
     plain = re.sub(r"&&|\band\b|[()]|;", ",", plain)
     plain = re.sub(r"([=<>~^≥≤]) +", r"\1", plain)
-    parts = [it.strip() for it in BETWEEN.sub(",", plain).split(",") if it.strip()]
-    made = [one(it) for it in parts if not re.fullmatch(r"[=<>~^]*[*xX]", it)] if parts else [None]
-    return None if None in made else ", ".join(made) or "*"
+    parts = [part.strip() for part in BETWEEN.sub(",", plain).split(",") if part.strip()]
+    made = [one(part) for part in parts if not re.fullmatch(r"[=<>~^]*[*xX]", part)]
+    known = [part for part in made if part is not None]
+    return (", ".join(known) or "*") if parts and len(known) == len(made) else None
 
 
-def one(part):
+def one(part: str) -> str | None:
     """One comparator in Cargo's words."""
     for abroad in sorted(SAME, key=len, reverse=True):
         if part.startswith(abroad):
@@ -134,7 +141,7 @@ def one(part):
     if not found:
         return None
     sign, *numbers, pre = found.groups()
-    numbers = [str(int(it)) if it.isdigit() else "*" for it in numbers if it]
+    numbers = [str(int(text)) if text.isdigit() else "*" for text in numbers if text]
     if "*" in numbers:
         numbers = numbers[:numbers.index("*") + 1]
     if sign == "~>":
@@ -144,7 +151,7 @@ def one(part):
     return sign + ".".join(numbers) + (f"-{pre.lstrip('-')}" if pre else "")
 
 
-def pessimistic(numbers, pre):
+def pessimistic(numbers: list[str], pre: str | None) -> str:
     """Ruby's `~>`: the last number may rise, those before it may not."""
     text = ".".join(numbers) + (f"-{pre.lstrip('-')}" if pre else "")
     if len(numbers) == 3:
@@ -152,13 +159,13 @@ def pessimistic(numbers, pre):
     return f"^{text}" if numbers[0] != "0" else f">={text}, <1"
 
 
-def hyphened(plain):
+def hyphened(plain: str) -> str | None:
     """npm's range, `1.2.3 - 2.3.4`."""
     low, dash, high = plain.partition(" - ")
     return f">={low.strip()}, <={high.strip()}" if dash else None
 
 
-def interval(plain):
+def interval(plain: str) -> str | None:
     """Maven's and NuGet's range, `[1.0,2.0)`."""
     found = INTERVAL.fullmatch(plain)
     if not found:
@@ -169,13 +176,15 @@ def interval(plain):
     return ", ".join(parts) or "*"
 
 
-def either(plain):
+def either(plain: str) -> str | None:
     """Carets of which each begins where the one before it ends are one range."""
-    bounds = [re.fullmatch(r"\^?(\d+)(?:\.(\d+))?(?:\.(\d+))?(?:\.[xX*])?", it.strip(), re.ASCII) for it in plain.split("||")]
-    if None in bounds:
+    carets = plain.split("||")
+    found = (CARET.fullmatch(caret.strip()) for caret in carets)
+    bounds = [bound for bound in found if bound]
+    if len(bounds) < len(carets):
         return None
-    majors = [int(it[1]) for it in bounds]
+    majors = [int(bound[1]) for bound in bounds]
     joined = majors == list(range(majors[0], majors[0] + len(majors))) and majors[0] > 0
-    joined = joined and all(not int(it[2] or 0) and not int(it[3] or 0) for it in bounds[1:])
-    first = ".".join(it for it in bounds[0].groups() if it)
+    joined = joined and all(not int(bound[2] or 0) and not int(bound[3] or 0) for bound in bounds[1:])
+    first = ".".join(number for number in bounds[0].groups() if number)
     return f">={first}, <{majors[-1] + 1}" if joined else None
