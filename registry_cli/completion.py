@@ -58,7 +58,7 @@ complete -c registry -c registryd -f -a '(__registry_told)'
 """,
 }
 # the words of the program: the options of each command with what they take
-PROGRAM = {
+PROGRAM: dict[str, dict[str, Takes | None]] = {
     "serve": {"--workers": tuple("1 2 4 8 16 32 64".split()), "--journal": FILE, "--load": FILE, "--save": FILE,
               "--budget": tuple("100 1000 10000 100000".split()), "--newest": None},
     "race": {"--newest": None},
@@ -85,8 +85,9 @@ def of_program(before: list[str], current: str) -> tuple[str, Sequence[str]]:
     of = next((it for it in before if it in PROGRAM), None)
     if of is None:
         return "words", [*PROGRAM, *GENERAL]
-    if PROGRAM[of].get(before[-1]):
-        return of_kind(PROGRAM[of][before[-1]], before, None)
+    takes = PROGRAM[of].get(before[-1])
+    if takes:
+        return of_kind(takes, before, None)
     if of == "race" and not current.startswith("-"):
         return FILE, []
     return "words", [*(it for it in PROGRAM[of] if it not in before), "--help"] if PROGRAM[of] else ["serve", "race"]

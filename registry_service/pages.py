@@ -28,13 +28,12 @@ class Shower:
 
     def __init__(self, threads: ThreadPoolExecutor, words: Iterable[str]) -> None:
         command = [sys.executable, "-B", os.path.join(TOP, "registry"), "page", *words]
-        self.process = Tied(command, stdin=PIPE, stdout=PIPE, stderr=PIPE, text=True, process_group=0)
+        self.process = Tied(command, stdin=PIPE, stdout=PIPE, stderr=PIPE, process_group=0)
         self.kill = self.process.kill
         self.gone = asyncio.get_running_loop().run_in_executor(threads, self.ended)
 
     def ended(self) -> str:
-        assert self.process.stderr
-        lines: list[str] = self.process.stderr.read().splitlines()
+        lines = self.process.stderr.read().decode(errors="replace").splitlines()
         status = self.process.wait()
         self.process.let_go()
         last = lines[-1] if lines else ""
@@ -53,11 +52,10 @@ class Page(Supervisor[Shower]):
 
     async def begin(self) -> None:
         self.child = Shower(self.threads, [*self.words, f"--port={self.port}"])
-        assert self.child.process.stdout
         line = await asyncio.get_running_loop().run_in_executor(self.threads, self.child.process.stdout.readline)
         if not line:
             raise Failed(await asyncio.shield(self.child.gone))
-        self.address = line.strip()
+        self.address = line.decode().strip()
         self.port = urlsplit(self.address).port  # which it keeps
         self.is_up = True
 

@@ -42,7 +42,7 @@ class Options(Protocol):
     readers: int
     workers: int
     budget: int | None
-    seconds: float
+    seconds: int
 
 
 class Service:
@@ -51,7 +51,7 @@ class Service:
     def __init__(self, path: str, options: Options) -> None:
         self.path, self.options, self.loop = path, options, asyncio.get_running_loop()
         self.now, self.is_stopping, self.is_over = self.loop.time, False, False
-        self.servers: list[asyncio.AbstractServer] = []
+        self.servers: list[asyncio.Server] = []
         # connections: of lines, of HTTP, and those beyond the clients that may be
         self.clients: set[Client] = set()
         self.pages: set[asyncio.BaseTransport] = set()
