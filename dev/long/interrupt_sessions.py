@@ -1,7 +1,9 @@
 """Interrupts calls of the Python client at random moments, uses their sessions on, and looks for replies that are another request's.
 
-    python3 -m dev.long.interrupt_sessions --sessions 10000   so many sessions, in groups each of which has a seed of its own, counted from --seed
-    python3 -m dev.long.interrupt_sessions --seed 17 --sessions 20    one group again, if not interrupted at the same moments
+    PYTHONPATH=clients/python python3 -m dev.long.interrupt_sessions --sessions 10000
+        so many sessions, in groups each of which has a seed of its own, counted from --seed
+    PYTHONPATH=clients/python python3 -m dev.long.interrupt_sessions --seed 17 --sessions 20
+        one group again, if not interrupted at the same moments
 
 A group's sessions are with a program, in process, or with a service, over one journal. Threads make calls: requests, of each of which
 one reply is right, publications that are new, and some that are refused. Meanwhile exceptions come to each of them, raised by a signal's
