@@ -89,15 +89,15 @@ class Workloads(unittest.TestCase):
         self.assertEqual(set(held), {True, False})
 
     def test_requests_that_share_conflicts(self):
-        for make, size, answer in ((towers, 4, '"refused":true'), (chain, 5, '"refused":true'), (worn, 60, '"selected":[[')):
-            lines, requests = make(size)
+        for make, count, answer in ((towers, 4, '"refused":true'), (chain, 5, '"refused":true'), (worn, 60, '"selected":[[')):
+            lines, requests = make(count)
             self.assertEqual(len(set(requests)), len(requests))
             for reply in self.replies((lines, requests[:20])):
                 self.assertIn(answer, reply)
 
     def test_a_session_has_so_many_requests(self):
-        for make, size in SHARED.values():
-            self.assertEqual(len(make(size)[1]), 200)
+        for make, count in SHARED.values():
+            self.assertEqual(len(make(count)[1]), 200)
 
     def test_what_fills_a_store_is_found(self):
         for make in (dead_ends, about_one):

@@ -234,4 +234,3 @@ def listed():
     """The edits that each run tries, by crates."""
     crates = [[edit for edit in edits_of(name) if edit.only] for name in sorted(os.listdir(EDITS))]
     return [edits for edits in crates if edits]
-

@@ -29,7 +29,6 @@ class Addresses(unittest.TestCase):
                 endpoints(f"two,{word}")
             self.assertEqual(str(told.exception), f"{word!r} is no address: HOST:PORT, http://HOST:PORT or https://HOST:PORT")
 
-
     def test_how_bytes_go_out(self):
         # the first examples of RFC 4648
         self.assertEqual([gateway.encoded(it) for it in (b"", b"f", b"fo", b"foo", b"\xff")], ["", "Zg==", "Zm8=", "Zm9v", "/w=="])

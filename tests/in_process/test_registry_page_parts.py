@@ -216,9 +216,9 @@ class Searches(Shown):
         made = self.journal()
         found, thread = self.long(made, "one")
         waiting = []
-        for page, number in (("two", 1), ("three", 2), ("two", 3)):
+        for asking, number in (("two", 1), ("three", 2), ("two", 3)):
             count = made.count
-            waiting.append(self.begin(made, page, [number]))
+            waiting.append(self.begin(made, asking, [number]))
             while made.count == count:
                 pass
         self.assertEqual(([it for it, _ in waiting], found, made.running.page), ([[], [], []], [], "one"))
@@ -232,8 +232,8 @@ class Searches(Shown):
     def test_pages_that_are_known(self):
         made = self.journal()
         with mock.patch.object(journal, "MOST_PAGES", 2):
-            for page in ("a", "b", "a", "c"):
-                made.ask(REQUEST, page)
+            for asking in ("a", "b", "a", "c"):
+                made.ask(REQUEST, asking)
         self.assertEqual(made.last, {"b": 2, "c": 4})
 
     def test_what_was_shown_before_stays_until_its_search_has_ended(self):

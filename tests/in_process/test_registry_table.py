@@ -104,7 +104,6 @@ class Words(unittest.TestCase):
         for line, missing in (("show", "NAME"), ("publish", "NAME, VERSION"), ("publish a", "VERSION"), ("journal renew a", "NEW"), ("import cargo --lines", "DIR")):
             self.assertRaisesRegex(Usage, rf"\Athe following arguments are required: {missing}: see `registry .* --help`\Z", read, line)
 
-
     def test_help_before_a_subcommand(self):
         for words, wanted in ((["help", "journal", "verify"], ["journal", "verify", "--help"]), (["help"], ["--help"]), (["help", "help"], ["--help", "--help"]), (["show", "help"], ["show", "help"]), ([], [])):
             self.assertEqual(command_line.asked_help(words), wanted)

@@ -149,11 +149,11 @@ class Calls(unittest.TestCase):
 
     def test_each_call_of_a_session_that_fails(self):
         words, given, told, saved = self.session()
-        for call, end, least in (("read", b"registryd: input failed\n", 5), ("write", b"registryd: output failed\n", 5)):
+        for call, ending, least in (("read", b"registryd: input failed\n", 5), ("write", b"registryd: output failed\n", 5)):
             count = 0
             self.write(self.saved, b"as it was")
             for number, done in self.each(words, given, call, "EIO"):
-                self.assertEqual((done.returncode, done.stderr), (1, end), (call, number))
+                self.assertEqual((done.returncode, done.stderr), (1, ending), (call, number))
                 self.assertTrue(told.startswith(done.stdout), (call, number))
                 self.assertFalse(self.is_kept(saved), (call, number))
                 if call == "read":
@@ -185,10 +185,10 @@ class Calls(unittest.TestCase):
 
     def test_each_call_of_a_race(self):
         words, told = self.race()
-        for call, end in (("read", b"registryd: input failed\n"), ("write", b"registryd: output failed\n")):
+        for call, ending in (("read", b"registryd: input failed\n"), ("write", b"registryd: output failed\n")):
             count = 0
             for number, done in self.each(words, b"", call, "EIO"):
-                self.assertEqual((done.returncode, done.stderr), (1, end), (call, number))
+                self.assertEqual((done.returncode, done.stderr), (1, ending), (call, number))
                 self.assertTrue(told.startswith(done.stdout), (call, number))
                 # the files are read before anything is answered
                 self.assertTrue(done.stdout == b"" or call == "write", number)

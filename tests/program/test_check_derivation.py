@@ -167,7 +167,6 @@ class Judged(unittest.TestCase):
         self.assertIn(" follows\n" if wanted == 0 else " does not follow: ", printed)
         return printed
 
-
     def judge_each(self, wanted, lines, refusals):
         """The same of all refusals that one session ends with, each a request, its derivation, and what is told where it fails."""
         requests, replies = session(lines, *refusals[0][:2])

@@ -220,7 +220,6 @@ class WithService(Stepped, Case):
     def tearDown(self):
         self.assertEqual(self.ended, 0)
 
-
     def test_a_line_that_can_not_be_sent_ends_the_session(self):
         first, second = (registryd.Awaited(List()) for _ in range(2))
         first.add_done_callback(leave)

@@ -287,9 +287,9 @@ class Memory(unittest.TestCase):
     def commands_of(self, files, replies, number):
         """The commands of the journal that replies tell. What was learnt takes places too, and no reply tells of it."""
         entries = {}
-        for asked, told in zip(files, replies):
-            self.assertEqual(len(told), len(asked), number)
-            for line, reply in zip(asked, map(json.loads, told)):
+        for asked, answered in zip(files, replies):
+            self.assertEqual(len(answered), len(asked), number)
+            for line, reply in zip(asked, map(json.loads, answered)):
                 if "ok" in reply:
                     self.assertNotIn(reply["place"], entries, number)
                     entries[reply["place"]] = line
@@ -303,9 +303,9 @@ class Memory(unittest.TestCase):
             replies.append(lines[:len(asked)])
             lines = lines[len(asked):]
         journal = self.commands_of(files, replies, number)
-        for seat, (asked, told) in enumerate(zip(files, replies), 1):
+        for seat, (asked, answered) in enumerate(zip(files, replies), 1):
             seen = 0
-            for line, reply in zip(asked, told):
+            for line, reply in zip(asked, answered):
                 members, is_own = json.loads(reply), '"ok"' in reply
                 place, revision = members["place"], members["revision"]
                 # nothing that was seen is lost, and a seat's own command comes after it

@@ -295,7 +295,6 @@ class Cargo(Imported):
             "rewritten: dependencies without a version, of git or on a path outside, as dependencies on any version: 2"])
         self.assertEqual(status, 0)
 
-
     def test_what_nests_too_deeply(self):
         deep = 'a = "b"\nc = ' + "[" * 5_000 + "]" * 5_000 + "\n"
         plain = '[package]\nname = "plain"\nversion = "1.2.5"\n'

@@ -192,7 +192,7 @@ a selection with z 2.0.0 also changes:
                          f"p {LONG} can be selected; p 2.0.0 was selected, which is higher\na selection with it changes nothing else\n")
         # and one that comes before what is asked about
         said = self.why_not(["p@>=1.0.0-a, <2.0.0", "r"], "r 2.0.0")
-        self.assertEqual(said.splitlines()[0], f"p >=1.0.0-a, <2.0.0, r *: r 2.0.0 can't be selected")
+        self.assertEqual(said.splitlines()[0], "p >=1.0.0-a, <2.0.0, r *: r 2.0.0 can't be selected")
         lock = [["p", LONG]]
         said = self.why_not(["p@>=1.0.0-a", "r"], "r 2.0.0", lock=lock)
         self.assertEqual(said.splitlines()[0], f"p >=1.0.0-a, r *: r 2.0.0 can't be selected with p {LONG}, which comes before it")

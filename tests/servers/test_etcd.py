@@ -343,7 +343,6 @@ class OverSmallEtcd(Case):
         self.assertIsNone(front.send([A1]))
         self.assertEqual(front.end(), (1, "registryd-etcd: cell 4 is gone, and no snapshot stands for it\n"))
 
-
     def test_a_snapshot_that_lies(self):
         front = self.front(1, hook=deaf)
         front.ask(A1)

@@ -15,7 +15,7 @@ IMPORT = re.compile(r"^(?:pub )?use (\w+)(?:::\w+)*::(?:\{([^}]*)\}|(\w+));", re
 # `name(` and `Type::name(`, with what stands before it
 CALL = re.compile(rf"(?P<dot>\.)?(?:\b(?P<owner>{WORD})(?:::<[^()]*?>)?::)?\b(?P<name>{WORD})(?:::<[^()]*?>)?\(")
 # `Type::name` that is handed over
-HANDED = re.compile(rf"\b(?P<owner>[A-Z]\w*)::(?P<name>[a-z_]\w*)(?=[,)])")
+HANDED = re.compile(r"\b(?P<owner>[A-Z]\w*)::(?P<name>[a-z_]\w*)(?=[,)])")
 # a comment, the text of a string and a ghost's words call nothing
 SILENT = re.compile(r"//[^\n]*|\"(?:[^\"\\\n]|\\.)*\"|^ *(?:requires|ensures|ghost)\b[^\n]*", re.M)
 
