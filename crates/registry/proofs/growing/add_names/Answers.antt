@@ -37,21 +37,3 @@ loop-name-preserved c =
           c.loop-name.invariant.extends c.add_name.ensures.extends;
       counted = omega (arith, count, c.loop-name.invariant.counted, c.in-Some.ensures.steps.1);
     }
-
-pub add_name-requires-clause-paired : goal.add_name-requires-clause-paired
-add_name-requires-clause-paired c = c.loop-name.invariant.paired
-
-pub add_name-requires-clause-names_room : goal.add_name-requires-clause-names_room
-add_name-requires-clause-names_room c = omega (arith, ap length c.in-Some.ensures.steps.0, c.loop-name.invariant.names_room)
-
-pub add_name-requires-clause-lists_room : goal.add_name-requires-clause-lists_room
-add_name-requires-clause-lists_room c = omega (arith, ap length c.in-Some.ensures.steps.0, c.loop-name.invariant.lists_room)
-
-pub returns-clause-paired : goal.returns-clause-paired
-returns-clause-paired c = c.loop-name.invariant.paired
-
-pub returns-clause-stay : goal.returns-clause-stay
-returns-clause-stay c = c.loop-name.invariant.stay
-
-pub returns-clause-extends : goal.returns-clause-extends
-returns-clause-extends c = c.loop-name.invariant.extends

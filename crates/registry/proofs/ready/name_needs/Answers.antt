@@ -64,15 +64,3 @@ returns-in_err-add_need-clause-named c = IfOk-from_err c.from_residual-in_err-ad
 
 pub returns-in_err-add_need-clause-empty : goal.returns-in_err-add_need-clause-empty
 returns-in_err-add_need-clause-empty c = IfOk-from_err c.from_residual-in_err-add_need.result _ c.from_residual-in_err-add_need.ensures.0
-
-pub returns-clause-lists : goal.returns-clause-lists
-returns-clause-lists c = c.loop-need.invariant.lists
-
-pub returns-clause-length : goal.returns-clause-length
-returns-clause-length c = c.loop-need.invariant.count
-
-pub returns-clause-extends : goal.returns-clause-extends
-returns-clause-extends c = c.loop-need.invariant.extends
-
-pub returns-clause-empty : goal.returns-clause-empty
-returns-clause-empty c = c.loop-need.invariant.empty
