@@ -18,8 +18,8 @@ STATUSES = ((0, "What was asked for is done."),
                 "checked has a fault, or there is a difference that --locked forbids or --exit-status asks for."),
             (2, "The words are wrong."),
             (3, "A file can't be read or written, a journal is in use or damaged, or the program failed."),
-            (130, "A key interrupted it."), (143, "A signal ended "
-                                                  "it."), (141, "Its reader ended before all was written."))
+            (130, "A key interrupted it."), (143, "A signal ended it."),
+            (141, "Its reader ended before all was written."))
 VARIABLES = (("REGISTRY_JOURNAL", "The journal, where --journal does not name one."),
              ("REGISTRY_CONNECT", "The service to ask, where neither --connect nor --journal is given."),
              ("REGISTRY_PROGRAM", "The program that is asked, in place of registryd."),

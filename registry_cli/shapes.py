@@ -122,7 +122,7 @@ class Given(Protocol):
     after: int | None
     follow: bool
     port: int | None
-    seconds: int | None
+    seconds: float | None
     asked: str | None
     told: str | None
     request: int | None
@@ -143,7 +143,7 @@ class Served(Given, Protocol):
     mode: str
     group: str | None
     readers: int
-    seconds: int
+    seconds: float
     workers: int
     clients: int
     log: str | None

@@ -12,16 +12,15 @@ if TYPE_CHECKING:
 
     Takes = Union[str, range, tuple[str, ...]]
 
-# what a word or an option takes: for completion, and, where it is a range of numbers or a tuple of words, for what is
-# read
+# what a word or an option takes: for completion, and, where it is numbers or a tuple of words, for what is read
 FILE, FOLDER, PACKAGE, NEED, VERSION, TEXT = "file", "folder", "package", "need", "version", "text"
 BUDGETS, COUNTS, VERSIONS = range(2 ** 32), range(1, 2 ** 32), range(4097)
 MODES = ("600", "660", "666")
 COLORS = ("auto", "always", "never")
 
 
-class Word(namedtuple("Word", "names about takes flag many kept_as default "
-                              "short", defaults=[TEXT, "", "", "", None, ""])):
+class Word(namedtuple("Word", "names about takes flag many kept_as default short",
+                      defaults=[TEXT, "", "", "", None, ""])):
     """A word of a subcommand, or an option where it has a flag, which in short is as -q. `many` says how many: one,
     `?`, `*` or `+`, as argparse does. `kept_as` is the name under which its value is found where its own can't be one,
     and `default` its value where it isn't given."""
@@ -80,9 +79,8 @@ LOCKED = flag("--locked",
               "end with status 1 unless exactly the lock file's versions are selected (--lock, else registry.lock)")
 LOCK_FILE = option("--lock", "FILE", "the lock file (else: registry.lock)", FILE)
 BUDGET = option("--budget", "N", "give up after N conflicts", BUDGETS)
-SECONDS = Word(("N",), "end a search and its explanation after N seconds; 0 is never (else: "
-                       "30)", range(86_401), "--seconds",
-               kept_as="limit", default=30)
+SECONDS = Word(("N",), "end a search and its explanation after N seconds; 0 is never (else: 30)", range(86_401),
+               "--seconds", kept_as="limit", default=30)
 NEWEST = flag("--newest", "has no effect: each selection is the newest")
 NOT = Word(("NAME", "VERSION"), "why this version is not what is selected", PACKAGE, flag="--not", kept_as="version")
 BESIDE = ("Without NEED, the needs file beside the lock file says what is needed: its name ends in .needs instead of "
@@ -90,8 +88,8 @@ BESIDE = ("Without NEED, the needs file beside the lock file says what is needed
           "file that says what it was made for needs no such file.")
 IMPORTING = (
     option("--from", "CRATE",
-           "only these and what they need, as rand or rand@^0.8 (else: all, or of a workspace its own "
-           "packages)", NEED, "+"),
+           "only these and what they need, as rand or rand@^0.8 (else: all, or of a workspace its own packages)",
+           NEED, "+"),
     option("--newest", "N", "only the N newest versions of each crate", range(1, MOST_VERSIONS + 1)),
     flag("--lines", "write request lines to standard output, and publish nothing"),
     flag("--ask", "end these lines with a request for the crates of --from, or for a workspace's own packages"),
@@ -119,20 +117,19 @@ SUBCOMMANDS = (
                ("registry import crates-io ~/.cargo/registry/index/index.crates.io-* --from rand@^0.8",), IMPORTED),
     Subcommand("import cargo", "import_index", "Publish the packages of a Cargo folder, and what Cargo.lock has",
                (word("DIR", "a workspace, or what `cargo vendor` wrote", FOLDER),
-                option("--index", "DIR", "crates.io's index, or Cargo's copy of it, for crates that the folder "
-                                         "lacks", FOLDER),
+                option("--index", "DIR",
+                       "crates.io's index, or Cargo's copy of it, for crates that the folder lacks", FOLDER),
                 option("--write", "FILE",
-                       "keep what Cargo.lock has as a lock file, and beside it the workspace's own packages as "
-                       "needs", FILE),
+                       "keep what Cargo.lock has as a lock file, and beside it the workspace's own packages as needs",
+                       FILE),
                 *IMPORTING),
-               ("registry import cargo ~/mine --index ~/.cargo/registry/index/index.crates.io-* --write "
-                "mine.lock",), IMPORTED),
+               ("registry import cargo ~/mine --index ~/.cargo/registry/index/index.crates.io-* --write mine.lock",),
+               IMPORTED),
     Subcommand("import debian", "import_index", "Publish the Rust crates that Debian packages",
-               (word("FILE", "a file Packages, or what `apt-cache dumpavail` printed; without it apt-cache is "
-                             "asked", FILE, "?"),
-                *IMPORTING),
-               ("registry import debian --from reqwest", "registry import debian --from cargo --lines "
-                                                         "--ask"), IMPORTED),
+               (word("FILE", "a file Packages, or what `apt-cache dumpavail` printed; without it apt-cache is asked",
+                     FILE, "?"), *IMPORTING),
+               ("registry import debian --from reqwest", "registry import debian --from cargo --lines --ask"),
+               IMPORTED),
     Subcommand("show", "show", "Show a package: its versions, what the newest needs, and who needs it",
                (word("NAME", "the package", PACKAGE),
                 word("VERSION", "show what this version needs (else: the newest one)", VERSION, "?")),
@@ -143,8 +140,8 @@ SUBCOMMANDS = (
                (word("TEXT", "a part of the name"),), ("registry search json",)),
     Subcommand("list", "listing", "List all packages, each with its newest version", (), ("registry list",)),
     Subcommand("resolve", "resolve", "Select versions that fit together",
-               (NEEDS, LOCK, option("--write", "FILE", "keep the selection as a lock file, and beside it what was "
-                                                       "needed", FILE),
+               (NEEDS, LOCK,
+                option("--write", "FILE", "keep the selection as a lock file, and beside it what was needed", FILE),
                 LOCKED, BUDGET, SECONDS, NEWEST),
                ("registry resolve app@^1 zlib", "registry resolve app@^1 --write registry.lock",
                 "registry resolve --lock registry.lock --locked"),
@@ -152,16 +149,16 @@ SUBCOMMANDS = (
     Subcommand("tree", "tree", "Show a selection as a tree of who needs whom",
                (NEEDS, LOCK, option("--invert", "NAME", "who needs this package, in place of what is needed", PACKAGE),
                 option("--depth", "N", "no more than N steps deep", BUDGETS), BUDGET, SECONDS, NEWEST),
-               ("registry tree app@^1", "registry tree app@^1 --invert "
-                                        "log", "registry tree --lock registry.lock --depth 1"),
+               ("registry tree app@^1", "registry tree app@^1 --invert log",
+                "registry tree --lock registry.lock --depth 1"),
                "The needs of a package are shown once: (*) marks it where it comes again. " + BESIDE),
     Subcommand("why", "why", "Explain why a request is refused, or why a version is not selected",
                (NEEDS, LOCK, BUDGET, SECONDS, NEWEST, NOT,
                 option("--picture", "FILE", "draw it too, as SVG: the derivation, or the selection", FILE),
                 flag("--full", "tell all of an explanation that takes more than a screenful of a terminal"),
                 flag("--unfolded", "draw each line of a derivation, however long it is"),
-                option("--asked", "FILE", "the request lines of a session; without --told each followed by its "
-                                          "reply", FILE),
+                option("--asked", "FILE",
+                       "the request lines of a session; without --told each followed by its reply", FILE),
                 option("--told", "FILE", "the reply lines of that session", FILE),
                 option("--request", "N", "of a session this request line alone, counted from 1", COUNTS)),
                ("registry why app@^1 log@^2", "registry why app@^1 --not log 1.2.0",
@@ -178,8 +175,8 @@ SUBCOMMANDS = (
                "is not yanked, and why that is not selected. " + BESIDE),
     Subcommand("upgrade", "upgrade", "Unlock packages of a lock file, and write what is selected then",
                (word("NAME", "a package to unlock (else: all of the lock file)", PACKAGE, "*"), LOCK_FILE,
-                option("--need", "NEED", "what is needed, in place of what the needs file "
-                                         "says", NEED, "+"), BUDGET, SECONDS, NEWEST,
+                option("--need", "NEED", "what is needed, in place of what the needs file says", NEED, "+"),
+                BUDGET, SECONDS, NEWEST,
                 flag("--yes", "write it without a question")),
                ("registry upgrade log", "registry upgrade --yes", "registry upgrade --lock app.lock --need app@^2"),
                "It shows what would change and asks before it writes. " + BESIDE),
@@ -204,17 +201,17 @@ SUBCOMMANDS = (
                (word("FILE", "a journal", FILE),), ("registry journal verify registry.journal",),
                "A file without its end, as a session has it while it runs and leaves it where it is killed, is cut, "
                "and no fault: a session continues it. The exit status is 1 where a line is at fault."),
-    Subcommand("journal repair", "journal_repair", "Keep the longest lawful beginning of a journal's file, in a new "
-                                                   "file",
+    Subcommand("journal repair", "journal_repair",
+               "Keep the longest lawful beginning of a journal's file, in a new file",
                (word("FILE", "a journal", FILE), option("--output", "NEW", "the new file (else: FILE.repaired)", FILE)),
-               ("registry journal repair registry.journal", "registry journal repair old.journal --output "
-                                                            "registry.journal"),
+               ("registry journal repair registry.journal",
+                "registry journal repair old.journal --output registry.journal"),
                "It says what it dropped. The file itself is not changed, and no file is overwritten."),
     Subcommand("journal renew", "journal_renew", "Begin a smaller journal, for a registry that nears its limits",
                (word("OLD", "a journal", FILE), word("NEW", "the new file", FILE),
                 option("--lock", "FILE", "lock files that have to be selected as before", FILE, "+"),
-                option("--newest", "N", "keep the N newest versions of each package that are not yanked (else: "
-                                        "3)", VERSIONS)),
+                option("--newest", "N",
+                       "keep the N newest versions of each package that are not yanked (else: 3)", VERSIONS)),
                ("registry journal renew registry.journal new.journal --lock app.lock tools.lock",
                 "registry journal renew old.journal new.journal --newest 1"),
                "Kept is what the lock files select, the newest versions of each package, and what those need, in the "
@@ -232,22 +229,22 @@ SUBCOMMANDS = (
                 option("--seconds", "N", "give a request up after N seconds (else: 10)", range(1, 3_601), default=10),
                 option("--budget", "N", "the budget of conflicts of requests that name none", BUDGETS), NEWEST,
                 option("--workers", "N", "how many threads of each program resolve (else: 1)", range(1, 65), default=1),
-                option("--clients", "N", "no more than N clients at a time (else: "
-                                         "1000)", range(1, 100_001), default=1_000),
+                option("--clients", "N", "no more than N clients at a time (else: 1000)", range(1, 100_001),
+                       default=1_000),
                 option("--log", "FILE", "log each line that is answered; - is standard output", FILE),
                 option("--metrics-port", "N", "answer /metrics, /health, /journal and /log over HTTP on this port, too",
                        range(65_536)),
                 option("--page-port", "N",
-                       "show the page of `registry page` on this port of this machine; 0 is one that is "
-                       "free", range(65_536))),
+                       "show the page of `registry page` on this port of this machine; 0 is one that is free",
+                       range(65_536))),
                ("registry serve --socket registry.socket",
                 "registry serve --journal team.journal --port 7000 --seconds 5 --log service.log"),
                "Clients speak the lines of registryd(1), and each has its replies in order. A request that takes too "
                "long is answered BudgetSpent. SIGTERM and Ctrl-C end it within 5 seconds, after all lines that came "
                "are answered. A first line in HTTP asks for /metrics, /health, /journal or /log."),
     Subcommand("log", "log", "List the commands of the journal in order, each with the time when it was accepted",
-               (option("--after", "N", "only those after revision "
-                                       "N", BUDGETS), flag("--follow", "wait for further ones, until Ctrl-C")),
+               (option("--after", "N", "only those after revision N", BUDGETS),
+                flag("--follow", "wait for further ones, until Ctrl-C")),
                ("registry log", "registry log --follow --connect team.socket"),
                "A line has the revision, the time, and the command. A journal has no times. A service knows those of "
                "what it accepted since it began, and one that follows a file knows when it saw what came. Any other "

@@ -41,12 +41,12 @@ def environment() -> dict[str, str]:
     return {**os.environ, TUNABLES: f"{HUGE_PAGES}1:{given}" if given else f"{HUGE_PAGES}1"}
 
 
-class Tied(subprocess.Popen[bytes]):
+class Tied(subprocess.Popen):  # type: ignore[type-arg]  # of bytes, or of letters where `how` says text=True
     """A program that is killed when this process ends, with all of its group where it has a group of its own. Where no
     environment is given, it has that of `environment`."""
-    stdin: IO[bytes]  # which are none, as in the class above, where no pipe was asked for
-    stdout: IO[bytes]
-    stderr: IO[bytes]
+    stdin: IO[Any]  # each of these is there where a pipe was asked for
+    stdout: IO[Any]
+    stderr: IO[Any]
     held: int | None = None  # the other end of the pipe that it owns
 
     def __init__(self, words: Sequence[str], *, pass_fds: Collection[int] = (), process_group: int | None = None,

@@ -137,8 +137,8 @@ def wanted_of(given: Given, requests: Sequence[Object], replies: Sequence[Object
         demand(given.request in answered, what, Refused)
         return {given.request}
     wanted = answered[-1:] if given.version or (given.picture and not refused) else refused
-    demand(wanted, "no request is refused" if answered else "there is no request with a selection or a "
-                                                            "refusal", Refused)
+    none = "no request is refused" if answered else "there is no request with a selection or a refusal"
+    demand(wanted, none, Refused)
     return set(wanted)
 
 

@@ -182,6 +182,6 @@ class Cargo(Index):
             if len(held) > 1:
                 versions = ", ".join(it["version"] for it in held)
                 self.notes.left_out("lower versions of a crate that Cargo.lock has several times", f"{name} {versions}")
-            highest = {name: by_precedence(Release(it["version"], []) for it in held)[-1].version
-                       for name, held in self.lock.items()}
+        highest = {name: by_precedence(Release(it["version"], []) for it in held)[-1].version
+                   for name, held in self.lock.items()}
         return sorted([self.spelled(name), version] for name, version in highest.items() if read_version(version))

@@ -15,12 +15,13 @@ from .refusal import refusal
 
 if TYPE_CHECKING:
     from collections.abc import Callable, Mapping, Sequence
+    from typing import Union
 
     from ..shapes import Pairs, Request
     from .journal import Journal, View
 
     Query = Mapping[str, Sequence[str]]
-    Field = tuple[int, str]  # the number of a need, and its part that is at fault
+    Field = list[Union[int, str]]  # the number of a need, and its part that is at fault
     Value = dict[str, object]  # an object for JSON
 
 MOST_FOUND = 100  # names that are told of a search at a time
@@ -111,7 +112,7 @@ def field_of(needs: Pairs, number: int) -> Field | None:
         3: ("requirement", lambda at: read_requirement(needs[at][1]) is None),
         4: ("name", lambda at: names[at] in names[:at])}
     part, is_at_fault = judges.get(number, ("", lambda at: False))
-    return next(((at, part) for at in range(len(needs)) if is_at_fault(at)), None)
+    return next(([at, part] for at in range(len(needs)) if is_at_fault(at)), None)
 
 
 def selection(view: View, selected: Mapping[str, str]) -> list[Value]:

@@ -179,8 +179,8 @@ class Journal:
         """The reply of the program, which has some seconds for it."""
         search = Search(page, view.program())
         limit = f"{self.seconds:g} second{'s' * (self.seconds != 1)}"
-        told = f"no answer was found in {limit}, and the search was ended"
-        timer = threading.Timer(self.seconds, search.end, [told])
+        why = f"no answer was found in {limit}, and the search was ended"
+        timer = threading.Timer(self.seconds, search.end, [why])
         with self.lock:
             self.running = search
         timer.start()
