@@ -33,7 +33,7 @@ class Shower:
         self.gone = asyncio.get_running_loop().run_in_executor(threads, self.ended)
 
     def ended(self) -> str:
-        lines = self.process.stderr.read().decode(errors="replace").splitlines()
+        lines: list[str] = self.process.stderr.read().decode(errors="replace").splitlines()
         status = self.process.wait()
         self.process.let_go()
         last = lines[-1] if lines else ""

@@ -42,7 +42,7 @@ class Options(Protocol):
     readers: int
     workers: int
     budget: int | None
-    seconds: int
+    seconds: float
 
 
 class Service:

@@ -129,14 +129,17 @@ class Pages(unittest.TestCase):
 
 
 class Gate(unittest.TestCase):
-    """`.ci/run` installs first, then runs all tests, and ends as they do."""
+    """`.ci/run` installs first, judges types and layout, then runs all tests, and ends as they do."""
 
-    def run_it(self, test):
+    def run_it(self, test, typed="pass"):
         with tempfile.TemporaryDirectory() as top:
             for folder in (".ci", "dev"):
                 os.mkdir(os.path.join(top, folder))
             shutil.copy(os.path.join(TOP, ".ci", "run"), os.path.join(top, ".ci"))
-            shutil.copy(os.path.join(TOP, "__main__.py"), top)
+            for file in ("__main__.py", ".flake8"):
+                shutil.copy(os.path.join(TOP, file), top)
+            Path(top, "pyproject.toml").write_text("[tool.mypy]\nstrict = true\nfiles = ['typed.py']\n", encoding="utf-8")
+            Path(top, "typed.py").write_text(f"{typed}\n", encoding="utf-8")
             Path(top, "dev", "install_packages.py").write_text("import sys\nprint('installing', sys.argv[1:], flush=True)\nsys.exit(1)\n", encoding="utf-8")
             Path(top, "test").write_text(f"#!/bin/sh\necho testing \"$@\"\n{test}\n", encoding="utf-8")
             os.chmod(os.path.join(top, "test"), 0o755)
@@ -147,6 +150,12 @@ class Gate(unittest.TestCase):
         wanted = ["installing []", "testing --nothing-skipped"]
         self.assertEqual(self.run_it("exit 0"), (wanted, 0))
         self.assertEqual(self.run_it("exit 5"), (wanted, 5))
+
+    def test_types_and_layout_come_first(self):
+        for wrong, why in (("count: int = 'one'", "Incompatible types"), ("pass  # " + 120 * "x", "E501")):
+            lines, status = self.run_it("exit 0", wrong)
+            self.assertEqual((status, "testing --nothing-skipped" in lines), (1, False))
+            self.assertTrue(any(why in line for line in lines), lines)
 
 
 if __name__ == "__main__":
