@@ -31,7 +31,7 @@ class Child(Case):
 
     def test_a_short_line_comes_behind_a_long_text(self):
         with Registry(PROGRAM) as registry:
-            stdin, written = registry._session._process.stdin, []
+            stdin, written = registry._session._stdin, []
 
             def write(text):
                 if not written:
@@ -40,7 +40,7 @@ class Child(Case):
                 return stdin.write(text)
 
             slow = mock.Mock(wraps=stdin, write=write)
-            with mock.patch.object(registry._session._process, "stdin", slow):
+            with mock.patch.object(registry._session, "_stdin", slow):
                 registry.many(Publish("a", f"{number}.0.0") for number in range(300))
                 self.assertEqual(registry.resolve({"a": "*"}), Selection(300, {"a": "299.0.0"}))
                 self.assertTrue(comes(lambda: registry._session._is_whole))
