@@ -26,7 +26,6 @@ use Rattle.replies.specs.Replies.{Body, follows, no_selection, refused, selected
 use Rattle.wire.specs.Shapes.{check, resolve}
 use Rattle.derivations.specs.declared.facts.Cause.TheVariants as cause
 use Rattle.by_name.specs.NamedLines.{NamedLine}
-use Rattle.solver.specs.Outcomes.{NonePreferred}
 use Rattle.answers.specs.Outcomes.{IsRefuted, Proves, TellsNone, TellsSpent, TellsVerdict}
 use Rattle.session.specs.Step.{IsTold, State, nowhere}
 

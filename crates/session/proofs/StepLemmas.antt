@@ -21,7 +21,7 @@ use Rattle.answers.specs.Outcomes.{MayTell, TellsFound, TellsListing, TellsSpent
 use Rattle.answers.specs.declared.settings.Settings.{Settings}
 use Rattle.session.specs.SessionState.{is_full}
 use Rattle.session.specs.Session.{Accepts, AreAccepted, IsSession, commands_of, refusal_after, session_ways}
-use Rattle.session.specs.Step.{AreFree, AreReplies, IsReachable, IsTold, SessionsAreReachable, State, accepted_by, accepted_of, after, after_all, refusal_at, state_of, told_of}
+use Rattle.session.specs.Step.{AreFree, AreReplies, IsTold, SessionsAreReachable, State, accepted_by, accepted_of, after, after_all, refusal_at, state_of, told_of}
 use Rattle.session.specs.declared.session_state.TheConstants.{MOST_COMMANDS}
 use Rattle.session.proofs.ServedLemmas.{free_or}
 

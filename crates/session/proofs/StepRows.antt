@@ -1,7 +1,7 @@
 -- Worked sessions, computed from the definitions. What a line asks is the premise of each: crate `wire` says that of texts.
 use Rattle.std.proofs.Common.{◌≡◌, ◌∙◌, ℕ, List, [], ◌∷◌, codes, refl, sym, ap, subst, inl, inr, false, arith}
 use Rattle.std.proofs.lemmas.List.Sorted.{IsPermutation-refl}
-use Rattle.std.specs.Prelude.{Option, None, Some, Result, Ok, Err}
+use Rattle.std.specs.Prelude.{Option, None, Result, Ok, Err}
 use Rattle.versions.specs.OnLiterals.{semver_on_literals}
 use Rattle.versions.specs.Words.{parts_of_text, precedence, same_precedence}
 use Rattle.versions.specs.declared.refusal.Refusal.{Refusal}
@@ -10,7 +10,6 @@ use Rattle.registry.specs.Step as registry
 use Rattle.registry.specs.Step.{Change, Publish}
 use Rattle.registry.specs.declared.commands.Command.TheVariants as commands
 use Rattle.book.specs.Items.{after as after_item, empty, refusal, stepped}
-use Rattle.book.specs.declared.item.Item.{Item}
 use Rattle.book.specs.declared.item.Item.TheVariants as item
 use Rattle.derivations.specs.Laws.{DerivationsRefute}
 use Rattle.wire.specs.Requests.{request_of}

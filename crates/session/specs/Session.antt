@@ -1,5 +1,5 @@
 -- A session: its backend, which is known by the items that it accepted, and what it reads and writes.
-use Rattle.std.specs.Prelude.{◌≡◌, ◌⊎◌, ◌≤◌, ℕ, List, [], ◌∷◌, ◌++◌, length, take, Option, None}
+use Rattle.std.specs.Prelude.{◌≡◌, ◌⊎◌, ◌≤◌, ℕ, List, [], ◌∷◌, ◌++◌, length, take, Option, None, Result, Ok, Err}
 use Rattle.std.specs.Io.KnownBytes.{Appends, Consumes, IsAtEnd}
 use Rattle.versions.specs.declared.refusal.Refusal.{Refusal}
 use Rattle.registry.specs.Commands.{change_of}
@@ -12,6 +12,8 @@ use Rattle.lines.specs.Lines.{lines_of, whole_lines_of}
 use Rattle.lines.specs.Texts.{IsBeginning}
 use Rattle.replies.specs.Replies.{Reply, replies_text}
 use Rattle.answers.specs.Lawful.{Ways}
+use Rattle.answers.specs.declared.fault.RunFault.{RunFault}
+use Rattle.answers.specs.declared.fault.RunFault.TheVariants.{Input, Memory, Output}
 use Rattle.answers.specs.declared.settings.Settings.{Settings}
 use Rattle.session.specs.SessionState.{is_full}
 use Rattle.session.specs.Step.{AreReplies, State, accepted_of, state_of}
@@ -91,3 +93,10 @@ pub record Breaks (settings : Settings) (s : Streams) (begun : State) : Type 0 w
   pub replied : AreReplies settings.budget begun (take count (lines_of input)) replies
   pub written : Appends s.written_before s.written_after text
   pub beginning : IsBeginning text (replies_text replies)
+
+-- Lines were served until this came: the reader's end, a read that failed or a write that failed. Memory is not asked for.
+abbrev pub EndsAs : Settings → Streams → List Item → List Item → Result Unit RunFault → Type 0
+EndsAs settings s begun items (Ok _) = IsAtEnd s.read_after × ServesItems settings s lines_of begun items
+EndsAs settings s begun items (Err Input) = Serves settings s whole_lines_of (state_of begun)
+EndsAs settings s begun items (Err Output) = Breaks settings s (state_of begun)
+EndsAs settings s begun items (Err Memory) = ⊥

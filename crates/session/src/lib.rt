@@ -5,6 +5,7 @@
 //! |---|---|
 //! | `session_state` | the registry of the session, with the items that it accepted |
 //! | `batch` | requests of neighbouring lines, which are answered together by several threads |
+//! | `buffers` | what lines are read into, and what waits of them |
 //! | `putting` | the replies to such requests, put one behind another, and what their answers offer to be learnt |
 //! | `telling` | the replies to such requests, while threads search for those behind the next |
 //! | `telling_kept` | the same, in a session whose journal is kept in a file |
@@ -22,6 +23,7 @@
 #![tactic(auto)]
 
 mod batch;
+mod buffers;
 mod committed;
 mod committing;
 mod devices;
