@@ -128,7 +128,8 @@ def admits(requirement: str, version: Version) -> bool:
     """Whether a version meets a requirement; a pre-release wants a comparator with a pre-release of the same
     numbers."""
     comparators = read_requirement(requirement)
-    assert comparators is not None
+    if comparators is None:
+        raise ValueError(f"{requirement} is no requirement")
     opened = any(len(bound) == 4 and bound[3] != RELEASE and bound[:3] == version[:3] for _, bound in comparators)
     return (opened or version[3] == RELEASE) and all(passes(*it, version) for it in comparators)
 

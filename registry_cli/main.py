@@ -2,8 +2,10 @@
 from __future__ import annotations
 
 import errno
+import gc
 import importlib
 import os
+import signal
 import sys
 
 from . import TYPE_CHECKING, command_line
@@ -107,6 +109,16 @@ def write_no_more() -> None:
     os.dup2(os.open(os.devnull, os.O_WRONLY), sys.stdout.fileno())
 
 
+def command() -> NoReturn:
+    """Is the command: ends this process with its status."""
+    gc.set_threshold(100_000)  # what is loaded and read stays: so it is seldom searched for cycles
+    for number in (signal.SIGHUP, signal.SIGTERM):
+        signal.signal(number, end_by_signal)
+    status = main(sys.argv[1:])
+    gc.freeze()  # so that what is left is not searched for cycles once more as the interpreter ends
+    sys.exit(status)
+
+
 def main(words: list[str]) -> int:
     """The exit status of a command line. Its reader may have enough before the end, and a key may interrupt it: neither
     is a fault."""
@@ -124,7 +136,7 @@ def main(words: list[str]) -> int:
 
 def status_of(ended: SystemExit) -> int:
     """The exit status of what has ended the command."""
-    return ended.code if isinstance(ended.code, int) else DONE
+    return ended.code if isinstance(ended.code, int) else DONE if ended.code is None else FAILED
 
 
 def open_streams() -> None:

@@ -51,8 +51,9 @@ class Parser(argparse.ArgumentParser):
 def layout() -> partial[argparse.RawDescriptionHelpFormatter]:
     """How a parser lays out its help. It is told the width, since it would load what packs archives to learn that."""
     try:
-        terminal = sys.__stdout__.fileno()  # an AttributeError where there is none
-        columns = int(os.environ.get("COLUMNS", 0)) or os.get_terminal_size(terminal).columns
+        columns = int(os.environ.get("COLUMNS", 0))
+        # an AttributeError where there is none
+        columns = columns or os.get_terminal_size(sys.__stdout__.fileno()).columns
     except (AttributeError, ValueError, OSError):
         columns = 0
     return partial(argparse.RawDescriptionHelpFormatter, width=(columns or UNKNOWN) - 2)

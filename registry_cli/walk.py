@@ -19,7 +19,8 @@ def walk(needs: Pairs, selected: Mapping[str, str], registry: Registry) -> list[
     waiting = list(listed)
     for name in waiting:  # which grows
         release = registry.find(name, selected[name])
-        assert release
+        if not release:
+            raise ValueError(f"{name} {selected[name]} was selected and is not published")
         for target in release.needs:
             if target not in listed:
                 listed[target] = None

@@ -3,8 +3,8 @@ known."""
 from __future__ import annotations
 
 from datetime import datetime, timezone
-from typing import TYPE_CHECKING
 
+from registry_cli import TYPE_CHECKING
 from registry_cli.catalog import commands_in
 
 from .copies import text_at

@@ -3,5 +3,6 @@
 import os
 import sys
 
-TOP = os.path.dirname(os.path.dirname(os.path.realpath(__file__)))
-os.execv(sys.executable, [sys.executable, TOP, "registry_cli.check_derivation", *sys.argv[1:]])
+if __name__ == "__main__":
+    top = os.path.dirname(os.path.dirname(os.path.realpath(__file__)))
+    os.execv(sys.executable, [sys.executable, top, "registry_cli.check_derivation", *sys.argv[1:]])

@@ -13,7 +13,6 @@ from ..limits import MOST_LINE_BYTES
 
 if TYPE_CHECKING:
     from collections.abc import Iterator
-    from contextlib import AbstractContextManager
     from typing import BinaryIO
 
     from registryd_lines.fault import Fault
@@ -44,10 +43,8 @@ def run(given: Given, out: Output) -> int:
 def lines_of(path: str) -> Iterator[bytes]:
     """The lines of a file, of those that are too long a beginning that is too long as well."""
     try:
-        source: AbstractContextManager[BinaryIO] = contextlib.nullcontext(sys.stdin.buffer)
-        if path != "-":
-            source = open(path, "rb")
-        with source as file:
+        with contextlib.ExitStack() as held:
+            file: BinaryIO = sys.stdin.buffer if path == "-" else held.enter_context(open(path, "rb"))
             while line := file.readline(MOST_LINE_BYTES + 1):
                 rest = line
                 while rest and not rest.endswith(b"\n"):

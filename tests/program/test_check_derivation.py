@@ -325,6 +325,8 @@ class Rules(unittest.TestCase):
                 self.assertTrue(check_derivation.admits(requirement, check_derivation.read_version(text)), (requirement, text))
             for text in unmet.split():
                 self.assertFalse(check_derivation.admits(requirement, check_derivation.read_version(text)), (requirement, text))
+        with self.assertRaisesRegex(ValueError, "one is no requirement"):
+            check_derivation.admits("one", check_derivation.read_version("1.0.0"))
 
     def test_texts_that_are_no_requirements(self):
         for text in ("", " ", "^", "1,", ",1", "a", "1.0.0.0", "*, 1", "1, *", "**", "01", "1.*.2", "*.1", "1.0-a", "1.*-a",

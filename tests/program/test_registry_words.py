@@ -226,6 +226,19 @@ class Ends(Folder):
                                   stderr=subprocess.PIPE)
             self.assertEqual((done.returncode, done.stdout, done.stderr), (0, b"" if closed[:2] == ">&" else b"a  1.0.0  1 version\n", b""), closed)
 
+    def test_a_file_is_judged_where_standard_input_is_closed(self):
+        lines = self.path("lines")
+        with open(lines, "w", encoding="utf-8") as file:
+            file.write(publish("a", "1.0.0") + "\n")
+        done = subprocess.run(f"{COMMAND} check {lines} <&-", shell=True, stdout=subprocess.PIPE, stderr=subprocess.PIPE)
+        self.assertEqual((done.returncode, done.stdout), (0, b""))
+        self.assertEqual(done.stderr.decode(), f"registry: {lines}: 1 line, and no errors\n")
+
+    def test_where_python_looks_beside_no_file(self):
+        self.hold(publish("a", "1.0.0"))
+        done = typed("list", "--journal", self.journal, stdout=subprocess.PIPE, env={"PYTHONSAFEPATH": "1"})
+        self.assertEqual((done.returncode, done.stdout), (0, b"a  1.0.0  1 version\n"))
+
     def test_a_word_that_is_no_text(self):
         done = typed("show", b"\xff")
         self.assertEqual((done.returncode, done.stdout, done.stderr), (2, b"", b"registry: word 2 is not UTF-8\n"))

@@ -25,6 +25,7 @@ NUMBER = re.compile(r"-?(?:0|[1-9][0-9]*)(\.[0-9]+)?([eE][+-]?[0-9]+)?")
 UNIT = re.compile(r"\\u([0-9A-Fa-f]{4})")
 ESCAPES = {'"': '"', "\\": "\\", "/": "/", "b": "\b", "f": "\f", "n": "\n", "r": "\r", "t": "\t"}
 WORDS = {"true": True, "false": False, "null": None}
+NO_NAMES: dict[str, Value] = {}  # of what is no object
 
 
 class Value:
@@ -33,7 +34,7 @@ class Value:
     __slots__ = ("held", "start", "end", "names")
 
     def __init__(self, held: Held, start: int, end: int, names: dict[str, Value] | None = None) -> None:
-        self.held, self.start, self.end, self.names = held, start, end, names or {}
+        self.held, self.start, self.end, self.names = held, start, end, names or NO_NAMES
 
     @property
     def text(self) -> str:
