@@ -48,7 +48,21 @@ def pytest_xdist_make_scheduler(config, log):
             super().remove_node(node)
             return left[0][1] if left else None
 
+        def _reschedule(self, node):
+            """A worker begins a test when it knows the next one: so it gets files until it has two tests to run. Of one
+            that has ended it may get files that are done."""
+            super()._reschedule(node)
+            if self.workqueue and not node.shutting_down and self._pending_of(self.assigned_work[node]) < 2:
+                self._reschedule(node)
+
     return Files(config, log)
+
+
+@pytest.hookimpl(hookwrapper=True)
+def pytest_make_collect_report():
+    """A file that waits for ever while it is imported fails, too."""
+    with limited(SECONDS):
+        yield
 
 
 @pytest.hookimpl(hookwrapper=True)
@@ -56,6 +70,22 @@ def pytest_runtest_protocol(item):
     """What a test has begun that takes too long is ended, again and again until the test has: so none hangs others."""
     with limited(getattr(item.cls, "LONGEST", SECONDS)):
         yield
+
+
+@pytest.fixture(scope="class", autouse=True)
+def class_cleanups(request):
+    """What fails in the cleanups of a class, unittest only notes, and pytest below 8.2 does not look there."""
+    yield
+    for _, fault, _ in getattr(request.cls, "__dict__", {}).get("tearDown_exceptions", []):
+        raise fault
+
+
+@pytest.hookimpl(hookwrapper=True)
+def pytest_runtest_teardown(item, nextitem):
+    """What was said in a file is kept at its end, in case that a later one ends the process."""
+    yield
+    if nextitem is None or nextitem.path != item.path:
+        said.keep()
 
 
 def pytest_sessionfinish():

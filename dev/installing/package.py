@@ -4,9 +4,10 @@
     tools/package --unproved       else from the one that was compiled from them; its version and --version say so
     tools/package --output DIR     into another folder
 
-The same sources and the same program give the same bytes. It takes debhelper, and nothing is built or installed.
+It takes debhelper, and nothing is built or installed. The same sources, program and debhelper give the same bytes.
 """
 import argparse
+import contextlib
 import os
 import shutil
 import subprocess
@@ -36,13 +37,19 @@ def seconds():
     """When the package counts as made: as the environment says, else when the last commit was; else 1970."""
     if "SOURCE_DATE_EPOCH" in os.environ:
         return int(os.environ["SOURCE_DATE_EPOCH"])
-    done = subprocess.run(["git", "-C", TOP, "log", "-1", "--format=%ct"], stdin=subprocess.DEVNULL,
-                          stdout=subprocess.PIPE, stderr=subprocess.DEVNULL, text=True, check=False)
-    return int(done.stdout.strip() or 0) if (TOP / ".git").exists() else 0
+    # an unpacked archive may lie inside the repository of something else, and there may be no git
+    with contextlib.suppress(OSError):
+        if (TOP / ".git").exists():
+            done = subprocess.run(["git", "-C", TOP, "log", "-1", "--format=%ct"], stdin=subprocess.DEVNULL,
+                                  stdout=subprocess.PIPE, stderr=subprocess.DEVNULL, text=True, check=False)
+            return int(done.stdout.strip() or 0)
+    return 0
 
 
 def write(tree, program, of):
     """Writes what debhelper packs below a folder."""
+    if (TOP / "LICENSE").exists():
+        raise Refused("LICENSE states a license, and dev/installing/debian/copyright says that none is: change that")
     shutil.copytree(HERE / "debian", tree / "debian")
     maintainer = (tree / "debian/control").read_text(encoding="utf-8").partition("Maintainer: ")[2].partition("\n")[0]
     date = format_datetime(datetime.fromtimestamp(seconds(), timezone.utc))
@@ -66,8 +73,9 @@ def build(program, folder, of=None):
     with tempfile.TemporaryDirectory() as made:
         tree = Path(made, NAME)
         write(tree, program, of)
+        # debhelper asks for root else, where debian/rules is called by itself
         given = {**os.environ, "LC_ALL": "C.UTF-8", "SOURCE_DATE_EPOCH": str(seconds()),
-                 "REGISTRYD_TOLD": f"Commit {programs.commit()}. {TOLD[program.kind]}"}
+                 "DEB_RULES_REQUIRES_ROOT": "no", "REGISTRYD_TOLD": f"Commit {programs.commit()}. {TOLD[program.kind]}"}
         done = subprocess.run(["debian/rules", "binary"], cwd=tree, env=given, stdin=subprocess.DEVNULL,
                               stdout=subprocess.PIPE, stderr=subprocess.STDOUT, text=True, check=False)
         if done.returncode:

@@ -31,8 +31,8 @@ LOOK, GIVE_WAY = 0.5, 3
 # A file that failed is run once more, alone. Where more files than these failed, that was no chance.
 MOST_AGAIN = 10
 NOT_QUICK = re.compile(r'^pytestmark = pytest\.mark\.not_quick\("(.+)"\)$', re.M)
-# How pytest ends where tests ran, passed or failed; and where none was found.
-RAN, NONE_RAN = (0, 1), 5
+# How pytest ends where no test was found.
+NONE_RAN = 5
 
 
 class Session:
@@ -58,14 +58,16 @@ class Session:
     def ended(self):
         """What came of each file, and the seconds that it took; waits for that."""
         status = self.running.wait()
-        if status == NONE_RAN:
-            return {}, {}
+        counts, took, wrong = {}, {}, f"pytest ended with status {status}"
         try:
             counts, took = read(self.report)
         except (OSError, ElementTree.ParseError):
-            counts, took = {}, {}
-        if status not in RAN:
-            counts["pytest"] = Counts(failed=1, told=(f"pytest ended with status {status}",))
+            wrong += " and left no report"
+        else:
+            # it is 1 where a test failed, and 0 where none did
+            if status in (NONE_RAN, any(it.failed for it in counts.values())):
+                return counts, took
+        counts["pytest"] = Counts(failed=1, told=(wrong,))
         return counts, took
 
 
@@ -77,11 +79,11 @@ def read(report):
         file = re.match(r"(?:\w+\.)*?test_\w+", names)
         file = f"{file[0].replace('.', '/')}.py" if file else names
         skipped = case.find("skipped")
-        if skipped is not None:
-            count = Counts(skipped=((names, skipped.get("message")),))
+        # what is cleaned up behind a skipped test may fail
+        if case.find("failure") is not None or case.find("error") is not None:
+            count = Counts(failed=1)
         else:
-            is_wrong = case.find("failure") is not None or case.find("error") is not None
-            count = Counts(failed=1) if is_wrong else Counts(passed=1)
+            count = Counts(passed=1) if skipped is None else Counts(skipped=((names, skipped.get("message")),))
         counts[file] = counts.get(file, Counts()) + count
         took[file] = took.get(file, 0) + float(case.get("time"))
     return counts, took
@@ -129,7 +131,8 @@ def run_all(processors, builds=NOTHING, is_quick=False):
         print(wrote.read(), end="", flush=True)
         came, took = {**came, **counts}, {**took, **seconds}
         paths = files()
-        told = told_of(left_out(paths), len(paths)) if is_quick else ()
+        left = left_out(paths) if is_quick else {}
+        told = told_of(left, len(paths))
         if builds.failed:
             return sum(came.values(), Counts(failed=1, told=told))
         if not is_quick:
@@ -137,7 +140,10 @@ def run_all(processors, builds=NOTHING, is_quick=False):
             measured.note(MEASURED, whole, sorted(map(os.path.basename, paths)))
         told += once_more(folder, came)
         with Session(folder, [LAST]) as last:
-            return sum([*came.values(), *last.ended()[0].values()], Counts(told=told))
+            came.update(last.ended()[0])
+        lost = [path for path in (*paths, LAST) if path not in left and came.get(path, Counts()) == Counts()]
+        told += (f"no test ran of {' '.join(lost)}",) if lost else ()
+        return sum(came.values(), Counts(failed=len(lost), told=told))
 
 
 def once_more(folder, came):

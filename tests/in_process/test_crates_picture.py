@@ -12,7 +12,8 @@ class Picture(unittest.TestCase):
             titles = [unescape(it) for it in re.findall("<title>(.*?)</title>", file.read())]
         edges = draw_crates.edges_of(draw_crates.stands_on())
         wanted = ["crates", *edges, *(f"{name}->{it}" for name, below in edges.items() for it in below)]
-        self.assertEqual(sorted(titles), sorted(wanted), "dev/draw_crates.py draws it anew")
+        self.assertEqual(sorted(titles), sorted(wanted),
+                         "python3 -m dev.draw_crates draws it anew (it needs Graphviz)")
 
     def test_no_line_is_left_out_that_others_do_not_say(self):
         crates = draw_crates.stands_on()

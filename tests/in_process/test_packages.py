@@ -76,6 +76,18 @@ class Installing(unittest.TestCase):
         self.assertEqual(self.called("apt-get"), [f"{apt} update", f"{apt} install -y --no-install-recommends one two four"])
         self.assertEqual((self.called("dpkg-query")[0], self.called("apt-cache")[0]), ("-W -f=${db:Status-Status} two", "show one"))
 
+    def test_only_what_lacks_is_installed(self):
+        self.stub()
+        for name in ("one-command", "four-command"):
+            Path(self.folder, name).symlink_to("stub")
+        self.assertEqual(self.run_it(), ("install_packages: installed two", 0))
+        self.assertTrue(self.called("apt-get")[1].endswith(" --no-install-recommends two"))
+
+    def test_where_there_is_no_apt(self):
+        with mock.patch.dict(os.environ, PATH=self.folder):
+            said, status = self.run_it()
+        self.assertEqual((said, status), ("install_packages: the tests lack one, two, three: there is no apt-get", 1))
+
     def test_what_is_there_is_left_alone(self):
         self.stub()
         self.run_it()

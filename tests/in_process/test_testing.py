@@ -36,7 +36,15 @@ FILES = {
     "test_asks.py": CASE + "    def test_t(self):\n        self.assertEqual(os.environ['PROBE'], '/a/probe')\n",
     "test_keeps.py": CASE + "    def test_u(self):\n        import sys\n        self.assertIsNone(os.environ.get('PYTHONDONTWRITEBYTECODE'))\n"
                             "        self.assertFalse(sys.dont_write_bytecode)\n",
-    "test_ends.py": CASE + "    def test_f(self):\n        os._exit(3)\n",
+    "test_ends.py": CASE + "    def test_f(self):\n        os._exit(3)\n    def test_p(self):\n        pass\n",
+    "test_done.py": CASE + "    def test_q(self):\n        said.REPLIES['c'] = 1\n",
+    "test_cleans.py": CASE + "    @classmethod\n    def setUpClass(cls):\n"
+                             "        cls.addClassCleanup(os.rmdir, '/none')\n    def test_v(self):\n        pass\n",
+    "test_skips_and_cleans.py": CASE + "    def test_w(self):\n        self.addCleanup(os.rmdir, '/none')\n"
+                                       "        self.skipTest('no etcd')\n",
+    "test_waits_imported.py": "import time\ntime.sleep(1000)\n",
+    "test_none.py": CASE + "    def nothing(self):\n        pass\n",
+    "test_function.py": CASE + "    def test_x(self):\n        pass\ndef test_y():\n    assert False\n",
 }
 NOTED = CASE + "    def test_g(self):\n        said.take()\n        self.assertEqual((said.REQUESTS, said.REPLIES), ({'a': 1}, {'c': 1}))\n"
 PASSING = CASE + "    def test_l(self):\n        pass\n"
@@ -69,14 +77,33 @@ class Counted(fake_tree.Case):
         self.ends(self.run_these("test_first.py", "test_broken.py"), "3 passed, 1 failed, 0 skipped", status=1)
 
     def test_a_process_that_ends_fails(self):
-        self.ends(self.run_these("test_first.py", "test_ends.py"), "pytest ended with status 3", "3 passed, 1 failed, 0 skipped", status=1)
+        wanted = "pytest ended with status 3 and left no report", "3 passed, 1 failed, 0 skipped"
+        self.ends(self.run_these("test_first.py", "test_ends.py"), *wanted, status=1)
+
+    def test_another_takes_its_place_and_what_was_noted_is_kept(self):
+        # one process runs them in this order; passed: q, then a and b, and what takes what q and a noted
+        ran = self.run_these(none=["test_done.py", "test_ends.py", "test_first.py"], last=NOTED)
+        self.assertIn("crashed while running 'tests/in_process/test_ends.py::Case::test_f'", ran[0])
+        self.ends(ran, "4 passed, 1 failed, 0 skipped", status=1)
+
+    def test_what_fails_when_it_is_cleaned_up_fails(self):
+        ran = self.run_these("test_cleans.py", "test_skips_and_cleans.py")
+        self.ends(ran, "1 passed, 2 failed, 0 skipped", status=1)
+
+    def test_each_file_has_a_test_that_ran(self):
+        self.ends(self.run_these("test_none.py"), "no test ran of tests/program/test_none.py",
+                  "1 passed, 1 failed, 0 skipped", status=1)
+        # one that stands outside of any class fails, too
+        self.ends(self.run_these("test_function.py"), "2 passed, 1 failed, 0 skipped", status=1)
 
     def test_a_test_that_waits_for_ever_fails(self):
-        ran = self.run_these("test_waits.py", "test_waits_before.py", "test_longer.py", TEST_SECONDS="4")
-        # each of both once more, alone
-        self.assertEqual(len(re.findall("^E +AssertionError: it was not answered in 4.0 seconds", ran[0], re.M)), 4, ran[0])
+        names = "test_waits.py", "test_waits_before.py", "test_longer.py"
+        ran = self.run_these(*names, none=["test_waits_imported.py"], TEST_SECONDS="4")
+        # each of three once more, alone
+        told = re.findall("^E +AssertionError: it was not answered in 4.0 seconds", ran[0], re.M)
+        self.assertEqual(len(told), 6, ran[0])
         # passed: n, the last file's, and r, whose class has more time
-        self.ends(ran, "3 passed, 2 failed, 0 skipped", status=1)
+        self.ends(ran, "3 passed, 3 failed, 0 skipped", status=1)
 
     def test_a_file_that_fails_once_is_run_again_and_that_is_told(self):
         note = str(self.tree.top / "note")
@@ -113,6 +140,16 @@ class Counted(fake_tree.Case):
 
 
 class Parts(unittest.TestCase):
+    def test_a_pytest_that_leaves_no_report_fails(self):
+        cases = '<testcase classname="tests.program.test_race.Case" name="test_a" time="1"/>'
+        for report, status, told in (("", 1, " and left no report"), ("<a>", 0, " and left no report"),
+                                     (f"<a>{cases}</a>", 1, ""), (f"<a>{cases}</a>", 3, "")):
+            writes = 'test -z "$1" || printf %s "$1" > "${0#*=}"; exit "$2"'
+            with tempfile.TemporaryDirectory() as folder, mock.patch.object(run, "PYTEST", ("sh", "-c", writes)), \
+                    run.Session(Path(folder), [report, str(status)]) as session:
+                came = session.ended()[0]
+            self.assertEqual(came["pytest"], Counts(failed=1, told=(f"pytest ended with status {status}{told}",)))
+
     def test_what_a_quick_run_leaves_out_is_named(self):
         with tempfile.TemporaryDirectory() as folder:
             for name, why in (("a", "kills"), ("c", "a browser"), ("d", "kills"), ("e", "")):

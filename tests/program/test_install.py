@@ -125,6 +125,10 @@ class Whole(unittest.TestCase):
         for words in (["registryd", "-V"], ["registryd", "--version", "--x"], ["registryd", "-V", "serve"], ["registry", "-V"], ["registry", "--version"]):
             done = run([self.bin / words[0], *words[1:]])
             self.assertEqual((done.returncode, done.stdout, done.stderr), (0, told, ""), words)
+        # behind another word it is the program's
+        done = run([self.bin / "registryd", "serve", "--version"])
+        self.assertEqual((done.returncode, done.stdout), (2, ""))
+        self.assertIn("unexpected argument '--version' found", done.stderr)
 
     def test_the_first_session_and_the_refusal_of_the_first_page(self):
         # the second command of the page is for a checkout alone
@@ -306,10 +310,23 @@ class Words(Case):
         self.assertEqual((status, said), (1, ""))
         self.assertIn("nothing is installed below", error)
 
+    def test_what_stays_is_named(self):
+        self.called(self.prefix, proved=PROVED)
+        (self.prefix / "share/mine").touch()
+        stay = [self.prefix / "share", self.prefix]
+        told = "".join(f"tools/install: {it} stays, since there is something else in it\n" for it in stay)
+        self.assertEqual(self.called("--remove", self.prefix), (0, "", told))
+        self.assertEqual(below(self.prefix), {"share/", "share/mine"})
+
     def test_below_another_folder(self):
-        status, *_ = self.called("/opt/it", "--destdir", self.folder / "made", proved=PROVED)
-        self.assertEqual(status, 0)
-        self.assertEqual(run([self.folder / "made/opt/it/bin/registryd", "x"]).stdout, "stub: <x>")
+        made = self.folder / "made/opt/it"
+        status, said, _ = self.called("/opt/it", "--destdir", self.folder / "made", proved=PROVED)
+        self.assertEqual((status, said.splitlines()[0]), (0, f"{made}/bin/registryd is installed, and is proved"))
+        self.assertEqual(run([made / "bin/registryd", "x"]).stdout, "stub: <x>")
+        # what is installed speaks of where it will be
+        unit = (made / "lib/systemd/system/registryd.service").read_text(encoding="utf-8")
+        self.assertIn('\nExecStart="/opt/it/bin/registry" serve', unit)
+        self.assertNotIn(str(self.folder), unit)
         self.assertEqual(self.called("/opt/it", "--destdir", self.folder / "made", "--remove")[0], 0)
         self.assertEqual(self.called("it", "--destdir", self.folder, proved=PROVED)[0], 2)
 
@@ -317,6 +334,8 @@ class Words(Case):
         status, _, error = self.called("", proved=PROVED)
         self.assertEqual((status, error.splitlines()[-1]), (2, "tools/install: error: the prefix is a folder's name"))
         before = below(self.folder)
+        error = self.called(self.stub / "prefix", proved=PROVED)[2]
+        self.assertRegex(error, r"\Atools/install: .*Not a directory.*\n\Z")
         for fault, told in ((KeyboardInterrupt, "it was broken off"), (OSError(28, "No space left on device"), "full")):
             with mock.patch.object(Path, "symlink_to", side_effect=fault):
                 status, said, error = self.called(self.prefix, proved=PROVED)

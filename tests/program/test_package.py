@@ -5,6 +5,7 @@ import gzip
 import os
 import re
 import shutil
+import subprocess
 import tempfile
 import time
 import unittest
@@ -146,11 +147,18 @@ class Made(unittest.TestCase):
         for name in os.listdir(self.usr / "bin"):
             self.assertRegex(unpacked(f"share/man/man1/{name}.1.gz"), r"(?mi)^\.sh NAME$")
 
-    def test_the_same_whenever_and_wherever_it_is_made(self):
-        other = self.folder / "another folder"
+    def test_the_same_whenever_and_wherever_it_is_made_and_by_whom(self):
+        other, begin = self.folder / "another folder", subprocess.run
+
+        def as_nobody(words, cwd=None, **more):
+            """debhelper is called by one who is not root."""
+            if os.geteuid() or not cwd:
+                return begin(words, cwd=cwd, **more)
+            begin(["chown", "-R", "nobody", cwd.parent], check=True)
+            return begin(words, cwd=cwd, user="nobody", **more)
         mask = os.umask(0o077)
         try:
-            with mock.patch.dict(os.environ, TZ="Asia/Kathmandu", LC_ALL="C"):
+            with mock.patch.dict(os.environ, TZ="Asia/Kathmandu", LC_ALL="C"), mock.patch("subprocess.run", as_nobody):
                 again = package.build(self.program, other)
         finally:
             os.umask(mask)
@@ -217,13 +225,31 @@ class Words(unittest.TestCase):
         self.assertEqual((status, said, error.splitlines()[1:]),
                          (1, "", ["tools/package: dh is not there; Debian has it in its package debhelper"]))
 
+    def test_when_it_counts_as_made(self):
+        folder = Path(self.enterContext(tempfile.TemporaryDirectory()))
+        self.enterContext(mock.patch.dict(os.environ, PATH="/none"))
+        os.environ.pop("SOURCE_DATE_EPOCH", None)
+        with mock.patch.object(package, "TOP", folder):
+            self.assertEqual(package.seconds(), 0)
+            (folder / ".git").touch()  # there is no git that reads it
+            self.assertEqual(package.seconds(), 0)
+
+    def test_a_license_is_not_denied(self):
+        folder = Path(self.enterContext(tempfile.TemporaryDirectory()))
+        (folder / "LICENSE").touch()
+        with mock.patch.object(package, "TOP", folder), self.assertRaisesRegex(Refused, "LICENSE states a license"):
+            package.write(folder / "tree", Program(Path(PROGRAM), PROVED, ""), None)
+
     @skip_without("dh", "debhelper")
     def test_it_says_where_the_package_is_or_why_there_is_none(self):
         folder, proved = self.enterContext(tempfile.TemporaryDirectory()), Program(Path(PROGRAM), PROVED, "")
         told = ("tools/package: it has no library for C, since none stands that may be packed: "
                 "tools/build_library builds it\n")
         path = f"{folder}/registryd_{VERSION}-1_amd64.deb"
-        self.assertEqual(self.called("--output", folder, proved=proved), (0, f"{path}\n", told))
+        with mock.patch.dict(os.environ, SOURCE_DATE_EPOCH="1000000000"):
+            self.assertEqual(self.called("--output", folder, proved=proved), (0, f"{path}\n", told))
+        listed = run(["dpkg-deb", "-c", path], env={**os.environ, "TZ": "UTC"}).stdout.splitlines()
+        self.assertEqual({line.split()[3] for line in listed}, {"2001-09-09"})
         os.remove(path)
         with mock.patch.object(package, "write", lambda tree, *_: (tree / "debian").mkdir(parents=True)):
             self.assertRaises(OSError, package.build, proved, Path(folder))

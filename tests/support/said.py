@@ -83,9 +83,12 @@ def read(path):
 
 
 def keep():
-    """Keeps what this process has noted, for the last test."""
+    """Keeps what this process has noted so far, for the last test; in one step, in the place of what it kept before."""
     if os.environ.get("SAID"):
-        Path(os.environ["SAID"], str(os.getpid())).write_bytes(pickle.dumps((REQUESTS, REPLIES, JOURNAL)))
+        path = Path(os.environ["SAID"], str(os.getpid()))
+        new = path.parent.with_name(f"said.{path.name}")
+        new.write_bytes(pickle.dumps((REQUESTS, REPLIES, JOURNAL)))
+        os.replace(new, path)
 
 
 def take():
