@@ -1,5 +1,6 @@
 """How pytest runs the tests of this repository: in which order, how long each may take, and that what was said in them
 is kept."""
+import contextlib
 import os
 import shutil
 import sys
@@ -50,10 +51,12 @@ def pytest_xdist_make_scheduler(config, log):
 
         def _reschedule(self, node):
             """A worker begins a test when it knows the next one: so it gets files until it has two tests to run. Of one
-            that has ended it may get files that are done."""
-            super()._reschedule(node)
-            if self.workqueue and not node.shutting_down and self._pending_of(self.assigned_work[node]) < 2:
-                self._reschedule(node)
+            that has ended it may get files that are done. What can't be sent, since it has just ended, goes to another
+            once that is noticed."""
+            with contextlib.suppress(OSError):
+                super()._reschedule(node)
+                if self.workqueue and not node.shutting_down and self._pending_of(self.assigned_work[node]) < 2:
+                    self._reschedule(node)
 
     return Files(config, log)
 
