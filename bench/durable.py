@@ -1,55 +1,35 @@
-"""What it costs to keep a journal: a session with `--journal` beside one without, in the same run and on the same disk.
+"""What it costs to keep a journal, to save one and to load one: sessions beside one without a journal, in the same run
+and on the same disk.
 
     python3 -m bench.durable [--lines 49152] [--asked 2000] [--rounds 5] [--folder FOLDER] [--program PATH]
 
-Prints what a sync takes in the folder, then the best times over the rounds as ratios: of publish lines that are all at hand, of a
-client that sends a line and waits for its reply, and of a session without a line that begins with the journal which the others
-leave; the syncs of each, and how much more memory a session had at its peak. Syncs are counted in a run that is not timed, by
+Prints what a sync takes in the folder, then the best times over the rounds as ratios: of publish lines that are all at
+hand, of a client that sends a line and waits for its reply, and of sessions without a line that begin with the journal
+which the others leave; the syncs of each, and how much more memory a session had at its peak. Loading and saving are
+compared with reading the same lines as requests. Syncs are counted in a run that is not timed, by
 `tests/support/c/watch_calls.c`, which takes a C compiler.
 """
-import argparse
+from __future__ import annotations
+
 import itertools
-import multiprocessing
 import os
 import resource
 import subprocess
 import sys
 import tempfile
 import time
-from dataclasses import dataclass
 
-from bench.ingest import PROGRAM
-from bench.lines import publish_lines
+from bench.measuring import Took, best, parser, session, write, write_publications
+from dev.building.progress import TOP
 
-TOP = os.path.dirname(os.path.dirname(os.path.abspath(__file__)))
 SYNCS = 200  # that are measured by themselves
 LOOP = 1_000_000  # steps of a loop by which the machine's speed is told
 
 
-@dataclass
-class Took:
-    """What a session took: seconds, those of a processor, and kilobytes at its peak."""
-    seconds: float
-    processor: float
-    peak: int
-
-
-def session(program, given, *words):
-    """What a session takes for the lines of a file, replies included."""
-    with open(given, "rb") as lines:
-        start = time.perf_counter()
-        running = subprocess.Popen([program, "serve", "--workers", "1", *words], stdin=lines, stdout=subprocess.DEVNULL)
-        _, status, used = os.wait4(running.pid, 0)
-        spent = time.perf_counter() - start
-    running.returncode = os.waitstatus_to_exitcode(status)
-    if running.returncode:
-        raise SystemExit(f"the program ended with {running.returncode}")
-    return Took(spent, used.ru_utime + used.ru_stime, used.ru_maxrss)
-
-
 def waiting(program, lines, *words):
     """Seconds that a client takes which sends a line and waits for its reply."""
-    with subprocess.Popen([program, "serve", "--workers", "1", *words], stdin=subprocess.PIPE, stdout=subprocess.PIPE, bufsize=0) as running:
+    words = [program, "serve", "--workers", "1", *words]
+    with subprocess.Popen(words, stdin=subprocess.PIPE, stdout=subprocess.PIPE, bufsize=0) as running:
         start = time.perf_counter()
         for line in lines:
             running.stdin.write(line.encode() + b"\n")
@@ -57,29 +37,17 @@ def waiting(program, lines, *words):
         return time.perf_counter() - start
 
 
-def best(measured):
-    """The least of each over several runs."""
-    return Took(*(min(getattr(it, name) for it in measured) for name in ("seconds", "processor", "peak")))
-
-
-def write_lines(path, count):
-    with open(path, "w", encoding="ascii") as out:
-        out.write("\n".join(publish_lines(count)) + "\n")
-
-
 class Bench:
     """The files of one run, all of them in one folder."""
 
-    def __init__(self, program, folder, count, asked):
+    def __init__(self, program: str, folder: str, count: int, asked: int) -> None:
         self.program, self.folder, self.count = program, folder, count
-        self.given, self.none, self.kept, self.saved = (os.path.join(folder, name) for name in ("lines", "none", "kept", "saved"))
-        # a process of its own makes them: what a child starts with counts for its peak, so this one has to stay small
-        maker = multiprocessing.get_context("fork").Process(target=write_lines, args=(self.given, count))
-        maker.start()
-        maker.join()
+        names = ("lines", "none", "kept", "saved")
+        self.given, self.none, self.kept, self.saved = (os.path.join(folder, name) for name in names)
+        write_publications(self.given, count)
         with open(self.given, encoding="ascii") as lines:
             self.asked = [line.removesuffix("\n") for line in itertools.islice(lines, asked)]
-        open(self.none, "w", encoding="ascii").close()
+        write(self.none, ())
 
     def fresh(self):
         """The words of a session whose journal begins."""
@@ -87,42 +55,43 @@ class Bench:
             os.unlink(self.kept)
         return "--journal", self.kept
 
-    def at_hand(self, rounds):
+    def at_hand(self, rounds: int) -> list[Took]:
         """Publications that are all at hand: without a journal, with one, and with one that is saved at the end."""
         rows = [(session(self.program, self.given), session(self.program, self.given, *self.fresh()),
                  session(self.program, self.given, "--save", self.saved)) for _ in range(rounds)]
         return list(map(best, zip(*rows)))
 
-    def one_by_one(self, rounds):
-        rows = [(waiting(self.program, self.asked), waiting(self.program, self.asked, *self.fresh())) for _ in range(rounds)]
+    def one_by_one(self, rounds: int) -> list[float]:
+        rows = [(waiting(self.program, self.asked), waiting(self.program, self.asked, *self.fresh()))
+                for _ in range(rounds)]
         return list(map(min, zip(*rows)))
 
-    def loading(self, rounds):
+    def loading(self, rounds: int) -> list[Took]:
         """Sessions without a line that begin with the journal of all of them: loaded, and gone on with."""
         session(self.program, self.given, *self.fresh())
         rows = [(session(self.program, self.none), session(self.program, self.none, "--load", self.kept),
                  session(self.program, self.none, "--journal", self.kept)) for _ in range(rounds)]
         return list(map(best, zip(*rows)))
 
-    def syncs(self):
-        """How many syncs a session makes of lines that are at hand, and one of a client that waits, beyond those of beginning."""
-        library = os.path.join(self.folder, "watch.so")
-        subprocess.run(["cc", "-O1", "-shared", "-fPIC", "-o", library, os.path.join(TOP, "tests", "support", "c", "watch_calls.c")], check=True)
+    def syncs(self) -> tuple[int, int]:
+        """How many syncs a session makes of lines that are at hand, and one of a client that waits, beyond those of
+        beginning."""
+        library, source = os.path.join(self.folder, "watch.so"), TOP / "tests" / "support" / "c" / "watch_calls.c"
+        subprocess.run(["cc", "-O1", "-shared", "-fPIC", "-o", library, source], check=True)
         return self.counted(library, session, self.given), self.counted(library, waiting, self.asked)
 
     def counted(self, library, run, given):
         """How often a session of these lines has the disk take what was written."""
         calls, launcher = os.path.join(self.folder, "calls"), os.path.join(self.folder, "launch")
-        open(calls, "w", encoding="ascii").close()
-        with open(launcher, "w", encoding="ascii") as out:
-            out.write(f'#!/bin/sh\nLD_PRELOAD="{library}" WATCH_TO=9 exec "{self.program}" "$@" 9>> "{calls}"\n')
+        write(calls, ())
+        write(launcher, ["#!/bin/sh", f'LD_PRELOAD="{library}" WATCH_TO=9 exec "{self.program}" "$@" 9>> "{calls}"'])
         os.chmod(launcher, 0o755)
         run(launcher, given, *self.fresh())
         with open(calls, encoding="ascii") as noted:
             return sum(line.startswith("fdatasync ") for line in noted)
 
 
-def sync_of(folder, size):
+def sync_of(folder: str, size: int) -> float:
     """Seconds of one append of so many bytes and its sync, the middle one of many."""
     with tempfile.NamedTemporaryFile(dir=folder, buffering=0) as file:
         took = []
@@ -149,30 +118,35 @@ def tell(bench, folder, rounds):
     waited, asked = bench.one_by_one(rounds)
     none, loaded, gone_on = bench.loading(rounds)
     at_hand, one_by_one = bench.syncs()
-    count, few, own = bench.count, len(bench.asked), resource.getrusage(resource.RUSAGE_SELF).ru_maxrss
-    print(f"{count} publications at hand: {plain.seconds * 1000:.0f} ms without a journal, {kept.seconds * 1000:.0f} ms with --journal, "
-          f"{saved.seconds * 1000:.0f} ms with --save")
-    print(f"  ratio of --journal {kept.seconds / plain.seconds:.2f}, of --save {saved.seconds / plain.seconds:.2f}; of a processor's time "
-          f"{kept.processor / plain.processor:.2f} and {saved.processor / plain.processor:.2f}; {at_hand} syncs")
+    few, own = len(bench.asked), resource.getrusage(resource.RUSAGE_SELF).ru_maxrss
+    print(f"{bench.count} publications at hand: {plain.seconds * 1000:.0f} ms without a journal, "
+          f"{kept.seconds * 1000:.0f} ms with --journal, {saved.seconds * 1000:.0f} ms with --save")
+    print(f"  ratio of --journal {kept.seconds / plain.seconds:.2f}, of --save {saved.seconds / plain.seconds:.2f}; "
+          f"of a processor's time {kept.processor / plain.processor:.2f} and {saved.processor / plain.processor:.2f}; "
+          f"{at_hand} syncs")
     print(f"  peak {plain.peak / 1024:.1f} MB without, {(kept.peak - plain.peak) / 1024:+.1f} MB with --journal, "
-          f"{(saved.peak - plain.peak) / 1024:+.1f} MB with --save" + (" (or less: so much this program takes)" if plain.peak <= own else ""))
-    print(f"a client that waits for each of {few}: {few / waited:.0f} a second without a journal, {few / asked:.0f} with --journal; {one_by_one} syncs")
-    print(f"a session without a line that begins with {count} items: {1000 * (loaded.seconds - none.seconds):.0f} ms by --load, "
-          f"{1000 * (gone_on.seconds - none.seconds):.0f} ms by --journal, ratio {(gone_on.seconds - none.seconds) / (loaded.seconds - none.seconds):.2f}")
+          f"{(saved.peak - plain.peak) / 1024:+.1f} MB with --save"
+          + (" (or less: so much this program takes)" if plain.peak <= own else ""))
+    print(f"a client that waits for each of {few}: {few / waited:.0f} a second without a journal, "
+          f"{few / asked:.0f} with --journal; {one_by_one} syncs")
+    loads, goes_on = loaded.seconds - none.seconds, gone_on.seconds - none.seconds
+    print(f"a session without a line that begins with {bench.count} items: {1000 * loads:.0f} ms by --load, "
+          f"{1000 * goes_on:.0f} ms by --journal, ratio {goes_on / loads:.2f}")
+    reading, loading = plain.processor - none.processor, loaded.processor - none.processor
+    print(f"  of the processor's time of reading the lines: loading {loading / reading:.2f}, "
+          f"saving {(saved.processor - plain.processor) / reading:.2f}")
     print(f"  peak {loaded.peak / 1024:.1f} MB by --load, {(gone_on.peak - loaded.peak) / 1024:+.1f} MB by --journal")
 
 
 def main():
-    asked = argparse.ArgumentParser(description=__doc__, formatter_class=argparse.RawDescriptionHelpFormatter)
-    for word, usual in (("--lines", 49_152), ("--asked", 2_000), ("--rounds", 5)):
-        asked.add_argument(word, type=int, default=usual)
-    asked.add_argument("--folder", help="where the files are made: on the disk that is to be measured")
-    asked.add_argument("--program", default=PROGRAM)
-    asked = asked.parse_args()
-    with tempfile.TemporaryDirectory(dir=asked.folder) as folder:
+    options = parser(__doc__, lines=49_152, asked=2_000, rounds=5)
+    options.add_argument("--folder", help="where the files are made: on the disk that is to be measured")
+    chosen = options.parse_args()
+    with tempfile.TemporaryDirectory(dir=chosen.folder) as folder:
         before = speed()
-        tell(Bench(asked.program, folder, asked.lines, asked.asked), folder, asked.rounds)
-    print(f"a loop of {LOOP} steps took {before * 1000:.0f} ms of a processor before, and {speed() * 1000:.0f} ms after")
+        tell(Bench(chosen.program, folder, chosen.lines, chosen.asked), folder, chosen.rounds)
+    print(f"a loop of {LOOP} steps took {before * 1000:.0f} ms of a processor before, "
+          f"and {speed() * 1000:.0f} ms after")
     return 0
 
 

@@ -3,13 +3,16 @@
     python3 -m bench.etcd [--fronts 1 3 10] [--seconds 5] [--folder DIR] [--entries 49152]
 
 Starts three members of etcd on loopback, whose data lies in a folder (by itself the system's for temporary files, on a
-disk). Prints for each number of fronts how many publications are accepted a second and how long one takes, when each client
-sends one line and waits, and when it sends 64 at once; the same of resolve lines, also 1,024 at once, of `--stale` fronts too, and of the
-program without a front that is asked the same in turn, with what a linearizable read takes alone; then what a race of as many files accepts a second, and how long a new front needs for all entries: from
+disk). Prints for each number of fronts how many publications are accepted a second and how long one takes, when each
+client sends one line and waits, and when it sends 64 at once; the same of resolve lines, also 1,024 at once, of
+`--stale` fronts too, and of the program without a front that is asked the same in turn, with what a linearizable read
+takes alone; then what a race of as many files accepts a second, and how long a new front needs for all entries: from
 the cells, from a snapshot, from a file. Each figure is of this machine, with members, fronts and clients on it.
 
-    python3 -m bench.etcd --only resolves --fronts 1       prints no more than what one front answers, beside the program
+    python3 -m bench.etcd --only resolves --fronts 1       prints only what one front answers, beside the program
 """
+from __future__ import annotations
+
 import argparse
 import itertools
 import os
@@ -21,7 +24,8 @@ import threading
 import time
 
 from bench.lines import publish_lines
-from bench.race import race, write
+from bench.measuring import write
+from bench.race import race
 from registry_etcd.cells import Cell, Cells
 from registry_etcd.gateway import Gateway, endpoints
 from tests.support import fronts, program
@@ -55,7 +59,8 @@ class Bench:
         return made
 
     def measure(self, asked, lines_of, together):
-        """Has each front asked as long as it is measured. Answers lines a second, and the milliseconds of a call: median, 99 of 100."""
+        """Has each front asked as long as it is measured. Answers lines a second, and the milliseconds of a call:
+        median, 99 of 100."""
         spent, begun = [[] for _ in asked], time.perf_counter()
         end = begun + self.seconds
 
@@ -85,8 +90,7 @@ class Bench:
         """Publications by so many fronts."""
         for together in (1, TOGETHER):
             made = self.opened(count, self.founded())
-            told = self.measure(made, lambda number, at, many: [program.publish(f"p{number}-{at // 4000}", f"1.{it}.0")
-                                                               for it in range(at, at + many)], together)
+            told = self.measure(made, published, together)
             tell(f"{count} fronts, {together} at once: accepted", told)
             for front in made:
                 front.end()
@@ -101,8 +105,8 @@ class Bench:
         return prefix, sorted({line.split('"name":"')[1].split('"')[0] for line in lines})
 
     def resolves(self, counts):
-        """Resolve lines by so many fronts, by `--stale` ones, and by one beside the program: of each package, and of a few that need
-        hardly any others."""
+        """Resolve lines by so many fronts, by `--stale` ones, and by one beside the program: of each package, and of a
+        few that need hardly any others."""
         prefix, names = self.filled()
         for what, some in ("each package", names), ("packages with few needs", names[:8]):
             for together in (1, TOGETHER, MANY):
@@ -119,13 +123,15 @@ class Bench:
                         front.end()
 
     def beside(self, front, prefix, lines_of, together):
-        """Asks a front and the program without one the same lines in turn, and tells how many times as long the front takes."""
+        """Asks a front and the program without one the same lines in turn, and tells how many times as long the front
+        takes."""
         with tempfile.NamedTemporaryFile() as file:
             file.write(fronts.run("journal", self.members.clients, "--prefix", prefix).stdout)
             file.flush()
             alone = Alone(file.name)
         cells = Cells(Gateway(endpoints(self.members.clients[0])), prefix)
-        asked = (lambda lines: at_once(front, lines), lambda lines: at_once(alone, lines), lambda _: next(cells.pages(Cell(ENTRIES, None, None))))
+        asked = (lambda lines: at_once(front, lines), lambda lines: at_once(alone, lines),
+                 lambda _: next(cells.pages(Cell(ENTRIES, None, None))))
         spent, at, end = ([], [], []), 0, time.perf_counter() + self.seconds
         while time.perf_counter() < end:
             lines = lines_of(0, at, together)
@@ -136,8 +142,9 @@ class Bench:
             at += together
         alone.end()
         of_front, of_program, of_read = (statistics.median(times) * 1000 for times in spent)
-        return (f"{of_front:.2f} ms a call, and {of_program:.2f} ms of the program without a front that is asked the same in turn: "
-                f"{of_front / of_program:.2f} times, and {sum(spent[0]) / sum(spent[1]):.2f} times over all; a read alone {of_read:.2f} ms")
+        return (f"{of_front:.2f} ms a call, and {of_program:.2f} ms of the program without a front that is asked the "
+                f"same in turn: {of_front / of_program:.2f} times, "
+                f"and {sum(spent[0]) / sum(spent[1]):.2f} times over all; a read alone {of_read:.2f} ms")
 
     def catching_up(self, entries):
         """A new front, where so many entries stand."""
@@ -156,6 +163,11 @@ class Bench:
             start = time.perf_counter()
             subprocess.run([program.PROGRAM, *program.SERVE, "--load", path], stdin=subprocess.DEVNULL, check=True)
             print(f"the program alone loads them in {time.perf_counter() - start:.2f} s", flush=True)
+
+
+def published(number, at, many):
+    """So many publications of a client."""
+    return [program.publish(f"p{number}-{at // 4000}", f"1.{minor}.0") for minor in range(at, at + many)]
 
 
 def at_once(front, lines):
@@ -188,27 +200,27 @@ def raced(count, lines=4000):
 
 
 def main():
-    asked = argparse.ArgumentParser(description=__doc__, formatter_class=argparse.RawDescriptionHelpFormatter)
-    asked.add_argument("--fronts", type=int, nargs="+", default=[1, 3, 10])
-    asked.add_argument("--seconds", type=float, default=5.0)
-    asked.add_argument("--folder", default=tempfile.gettempdir())
-    asked.add_argument("--entries", type=int, default=49_152)
-    asked.add_argument("--only", choices=("commands", "resolves", "beginning"))
-    asked = asked.parse_args()
+    parser = argparse.ArgumentParser(description=__doc__, formatter_class=argparse.RawDescriptionHelpFormatter)
+    parser.add_argument("--fronts", type=int, nargs="+", default=[1, 3, 10])
+    parser.add_argument("--seconds", type=float, default=5.0)
+    parser.add_argument("--folder", default=tempfile.gettempdir())
+    parser.add_argument("--entries", type=int, default=49_152)
+    parser.add_argument("--only", choices=("commands", "resolves", "beginning"))
+    chosen = parser.parse_args()
     if not is_installed():
         sys.exit("etcd is not installed: apt-get install etcd-server")
-    members = Members(3, folder=asked.folder)
+    members = Members(3, folder=chosen.folder)
     try:
-        bench = Bench(members, asked.seconds)
-        print(f"{os.cpu_count()} processors, data in {asked.folder}")
-        if asked.only in (None, "commands"):
-            for count in asked.fronts:
+        bench = Bench(members, chosen.seconds)
+        print(f"{os.cpu_count()} processors, data in {chosen.folder}")
+        if chosen.only in (None, "commands"):
+            for count in chosen.fronts:
                 bench.commands(count)
                 raced(count)
-        if asked.only in (None, "resolves"):
-            bench.resolves(asked.fronts)
-        if asked.only in (None, "beginning"):
-            bench.catching_up(asked.entries)
+        if chosen.only in (None, "resolves"):
+            bench.resolves(chosen.fronts)
+        if chosen.only in (None, "beginning"):
+            bench.catching_up(chosen.entries)
     finally:
         members.close()
     return 0

@@ -2,17 +2,16 @@
 
     python3 -m bench.hostile [--rounds 3] [--program PATH] [NAME ..]
 
-Prints for each workload the lines with the time in which the process loaded them, the bytes that are asked then and that are answered,
-the best time of that in so many processes, and two ratios of this time: to that of loading, and to the time in which publish lines
-of a usual kind are loaded that have as many bytes as the lines and what is asked have together. Times are those of a processor, so
-that what else runs beside changes little.
+Prints for each workload the lines with the time in which the process loaded them, the bytes that are asked then and
+that are answered, the best time of that in so many processes, and two ratios of this time: to that of loading, and to
+the time in which publish lines of a usual kind are loaded that have as many bytes as the lines and what is asked have
+together. Times are those of a processor, so that what else runs beside changes little.
 """
-import argparse
+from __future__ import annotations
 
 from bench.hostile_lines import HOSTILE
-from bench.ingest import PROGRAM
 from bench.lines import publish_lines
-from bench.resolve import Session
+from bench.measuring import Session, parser
 
 USUAL = 20_000  # lines
 
@@ -30,7 +29,7 @@ def asked_of(session, lines):
     return spent_by(session.process) - before, replies
 
 
-def size(lines):
+def size(lines: list[str]) -> int:
     return sum(len(line) + 1 for line in lines)
 
 
@@ -43,7 +42,7 @@ def usual(program, rounds):
     return min(times) / size(lines)
 
 
-def measured(program, lines, asked):
+def measured(program: str, lines: list[str], asked: list[str]) -> tuple[float, float, int]:
     """Seconds of loading the lines, those until what is asked is answered, and the bytes of the answers."""
     with Session(program) as session:
         loading, _ = asked_of(session, lines)
@@ -52,20 +51,18 @@ def measured(program, lines, asked):
 
 
 def main():
-    asked = argparse.ArgumentParser(description=__doc__.split("\n\n")[0])
-    asked.add_argument("--rounds", type=int, default=3)
-    asked.add_argument("--program", default=PROGRAM)
-    asked.add_argument("names", nargs="*", choices=[[], *HOSTILE])
-    asked = asked.parse_args()
-    a_byte = usual(asked.program, asked.rounds)
+    options = parser(__doc__, rounds=3)
+    options.add_argument("names", nargs="*", choices=[[], *HOSTILE])
+    chosen = options.parse_args()
+    a_byte = usual(chosen.program, chosen.rounds)
     print("workload            lines       bytes      loading     asked  answered      replies    to loading  to bytes")
-    for name in asked.names or HOSTILE:
+    for name in chosen.names or HOSTILE:
         lines, requests = HOSTILE[name]()
-        times = [measured(asked.program, lines, requests) for _ in range(asked.rounds)]
+        times = [measured(chosen.program, lines, requests) for _ in range(chosen.rounds)]
         loading, spent, answered = (min(column) for column in zip(*times))
         both = size(lines) + size(requests)
-        print(f"{name:16}{len(lines):9}{size(lines):12}{loading * 1000:10.1f} ms{size(requests):10}{answered:10}{spent * 1000:10.1f} ms"
-              f"{spent / loading:14.2f}{spent / (both * a_byte):10.2f}", flush=True)
+        print(f"{name:16}{len(lines):9}{size(lines):12}{loading * 1000:10.1f} ms{size(requests):10}{answered:10}"
+              f"{spent * 1000:10.1f} ms{spent / loading:14.2f}{spent / (both * a_byte):10.2f}", flush=True)
     return 0
 
 

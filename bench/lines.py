@@ -1,4 +1,6 @@
 """Publish lines of a registry of a realistic shape, the same for the same numbers."""
+from __future__ import annotations
+
 import json
 import random
 
@@ -20,7 +22,7 @@ def requirement(rng, version):
     return f"{major}.*"
 
 
-def publish_lines(count, seed=1):
+def publish_lines(count: int, seed: int = 1) -> list[str]:
     """`count` publish lines: packages of 10 to 60 versions, each of which needs 3 to 10 packages before it."""
     rng, packages, lines = random.Random(seed), [], []
     while len(lines) < count:

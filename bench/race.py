@@ -7,28 +7,22 @@ Every seat of a race replays what all files enter, which is the work of one sess
 time of each over the rounds, the ratio, and how many processors there are: a ratio of 1 or less is what the race is
 held to.
 """
-import argparse
 import os
 import subprocess
 import sys
 import tempfile
 import time
 
-from bench.ingest import PROGRAM, serve
 from bench.lines import publish_lines
+from bench.measuring import parser, session, write
 
 
-def dealt(lines, count):
+def dealt(lines: list[str], count: int) -> list[list[str]]:
     """The lines dealt out to so many files, each in its order."""
     return [lines[number::count] for number in range(count)]
 
 
-def write(path, lines):
-    with open(path, "w", encoding="ascii") as out:
-        out.write("\n".join(lines) + "\n")
-
-
-def race(program, paths):
+def race(program: str, paths: list[str]) -> tuple[float, bytes]:
     """Seconds that a race of these files takes, and what it prints."""
     with tempfile.TemporaryFile() as printed:
         start = time.perf_counter()
@@ -39,30 +33,24 @@ def race(program, paths):
 
 
 def main():
-    asked = argparse.ArgumentParser(description=__doc__.split("\n\n")[0])
-    asked.add_argument("--files", type=int, default=8)
-    asked.add_argument("--lines", type=int, default=6000)
-    asked.add_argument("--rounds", type=int, default=5)
-    asked.add_argument("--program", default=PROGRAM)
-    asked = asked.parse_args()
-    lines = publish_lines(asked.files * asked.lines)
+    chosen = parser(__doc__, files=8, lines=6000, rounds=5).parse_args()
+    lines = publish_lines(chosen.files * chosen.lines)
     with tempfile.TemporaryDirectory() as folder:
-        whole, paths = os.path.join(folder, "all"), []
+        whole, paths = os.path.join(folder, "all"), [os.path.join(folder, str(it)) for it in range(chosen.files)]
         write(whole, lines)
-        for number, own in enumerate(dealt(lines, asked.files)):
-            paths.append(os.path.join(folder, str(number)))
-            write(paths[-1], own)
+        for path, own in zip(paths, dealt(lines, chosen.files)):
+            write(path, own)
         races, sessions = [], []
-        for _ in range(asked.rounds):
-            spent, printed = race(asked.program, paths)
+        for _ in range(chosen.rounds):
+            spent, printed = race(chosen.program, paths)
             races.append(spent)
-            sessions.append(sum(serve(asked.program, whole)[0] for _ in range(asked.files)))
+            sessions.append(sum(session(chosen.program, whole).seconds for _ in range(chosen.files)))
         accepted = printed.count(b'"ok":true')
     if accepted != len(lines):
         sys.exit(f"{accepted} of {len(lines)} publications were accepted")
-    print(f"{asked.files} files of {asked.lines} publications, {os.cpu_count()} processors")
+    print(f"{chosen.files} files of {chosen.lines} publications, {os.cpu_count()} processors")
     print(f"race         {min(races) * 1000:7.1f} ms")
-    print(f"{asked.files} sessions   {min(sessions) * 1000:7.1f} ms")
+    print(f"{chosen.files} sessions   {min(sessions) * 1000:7.1f} ms")
     print(f"ratio        {min(races) / min(sessions):7.2f}")
     return 0
 

@@ -7,13 +7,11 @@ requests beside as many sessions of one request; then the time of a request and 
 are stored, beside none. Each figure is a share of another one of the same run. A request has as many conflicts as the
 least budget under which it is answered: under less it is answered that its budget is spent, and nothing is learnt.
 """
-import argparse
 import json
 import sys
 
-from bench.ingest import PROGRAM
 from bench.lines import publish_lines
-from bench.resolve import Session
+from bench.measuring import Session, parser
 from bench.workloads import (
     SHARED,
     about_one,
@@ -42,8 +40,8 @@ def conflicts(session, request):
 
 
 def warm(session, request, budget):
-    """Has most of a request searched a few times, so that neither the first request of a session pays for the pages that
-    the program had not touched, nor anything is learnt."""
+    """Has most of a request searched a few times, so that neither the first request of a session pays for the pages
+    that the program had not touched, nor anything is learnt."""
     for _ in range(3 if budget else 0):
         session.resolve(within(request, budget - 1))
 
@@ -91,24 +89,25 @@ def apart(program, lines, requests):
     return spent
 
 
-def report_shared(asked):
+def report_shared(program, rounds, sessions):
     print("workload  size  lines   conflicts, second      first     second   share"
-          f"   {asked.sessions} in one session, each in one   share")
+          f"   {sessions} in one session, each in one   share")
     for name, (make, size) in SHARED.items():
         lines, requests = make(size)
-        requests = requests[:asked.sessions]
-        first, second = counted(asked.program, lines, requests[0])
-        one, two = twice(asked.program, lines, requests[0], first, asked.rounds)
-        session, single = together(asked.program, lines, requests), apart(asked.program, lines, requests)
-        print(f"{name:8}{size:6}{len(lines):7}{first:12}{second:8}{one * 1000:9.2f} ms{two * 1000:8.2f} ms{two / one:8.3f}"
+        requests = requests[:sessions]
+        first, second = counted(program, lines, requests[0])
+        one, two = twice(program, lines, requests[0], first, rounds)
+        session, single = together(program, lines, requests), apart(program, lines, requests)
+        print(f"{name:8}{size:6}{len(lines):7}{first:12}{second:8}"
+              f"{one * 1000:9.2f} ms{two * 1000:8.2f} ms{two / one:8.3f}"
               f"{session * 1000:17.1f} ms{single * 1000:13.1f} ms{session / single:8.3f}", flush=True)
 
 
 # ---- a full store
 
 def filled(program, lines, fill):
-    """A session in which these requests were answered, so that nothing more is stored. Each has a budget: without one, a
-    request whose selection is found without a search may teach nothing."""
+    """A session in which these requests were answered, so that nothing more is stored. Each has a budget: without one,
+    a request whose selection is found without a search may teach nothing."""
     session = begun(program, lines)
     for request in fill:
         session.resolve(within(request, MOST_CONFLICTS))
@@ -116,8 +115,8 @@ def filled(program, lines, fill):
 
 
 def is_stored(session, request):
-    """Whether what a request of `dead_ends` or `about_one` leads to is stored: then a second one meets one conflict at most, where
-    the first one met one for each of its packages."""
+    """Whether what a request of `dead_ends` or `about_one` leads to is stored: then a second one meets one conflict at
+    most, where the first one met one for each of its packages."""
     return SPENT not in session.resolve(within(request, 1))[1]
 
 
@@ -141,20 +140,20 @@ def beside(program, lines, fill, request, rounds):
     return min(empty), min(full)
 
 
-def told(what, empty, full):
+def report(what, empty, full):
     print(f"{what:58}{empty * 1000:9.3f} ms{full * 1000:9.3f} ms{full / empty:8.3f}", flush=True)
 
 
-def report_full(asked):
+def report_full(program, rounds):
     print(f"\nwhere {STORE} are stored, beside none{'':29}none         full   share")
     dead, fill = dead_ends(STORE)
     for name, make, size in (("tower", tower, 7), ("tower", tower, 16), ("chain", chain, 30), ("worn", worn, 300)):
         lines, requests = make(size)
-        told(f"{name} {size}, of which no member says anything",
-             *beside(asked.program, dead + lines, fill, requests[0], asked.rounds))
+        report(f"{name} {size}, of which no member says anything",
+               *beside(program, dead + lines, fill, requests[0], rounds))
     lines, fill_one = about_one(STORE)
-    told("a search with hub, which each member names", *beside(asked.program, lines, fill_one, crossed(), asked.rounds))
-    report_ingest(asked, dead, fill)
+    report("a search with hub, which each member names", *beside(program, lines, fill_one, crossed(), rounds))
+    report_ingest(program, rounds, dead, fill)
 
 
 def loaded(session, lines):
@@ -162,24 +161,21 @@ def loaded(session, lines):
         return session.load(lines)
 
 
-def report_ingest(asked, dead, fill):
+def report_ingest(program, rounds, dead, fill):
     others = publish_lines(20_000)
     # versions that meet no premise, of packages that members rest on
     beyond = [line.replace('"1.0.0"', '"2.0.0"') for line in dead if '"1.0.0"' in line]
-    for what, lines in (("20,000 publications of other packages", others), (f"{len(beyond)} of packages that members rest on", beyond)):
-        empty = [loaded(begun(asked.program, dead), lines) for _ in range(asked.rounds)]
-        full = [loaded(filled(asked.program, dead, fill), lines) for _ in range(asked.rounds)]
-        told(what, min(empty), min(full))
+    for what, lines in (("20,000 publications of other packages", others),
+                        (f"{len(beyond)} of packages that members rest on", beyond)):
+        empty = [loaded(begun(program, dead), lines) for _ in range(rounds)]
+        full = [loaded(filled(program, dead, fill), lines) for _ in range(rounds)]
+        report(what, min(empty), min(full))
 
 
 def main():
-    asked = argparse.ArgumentParser(description=__doc__.split("\n\n")[0])
-    asked.add_argument("--rounds", type=int, default=10)
-    asked.add_argument("--sessions", type=int, default=200)
-    asked.add_argument("--program", default=PROGRAM)
-    asked = asked.parse_args()
-    report_shared(asked)
-    report_full(asked)
+    chosen = parser(__doc__, rounds=10, sessions=200).parse_args()
+    report_shared(chosen.program, chosen.rounds, chosen.sessions)
+    report_full(chosen.program, chosen.rounds)
     return 0
 
 

@@ -1,34 +1,31 @@
 """How much a service takes in and answers, beside one session over a pipe.
 
     python3 -m bench.service [--clients 1 10 100 1000] [--seconds 5] [--folder DIR]
-    python3 -m bench.service --kills 1000 [--seed 1]
     python3 -m bench.service --memory 1000000
 
-The first prints for a session over a pipe, and for each number of clients of a service, how many requests and publications are
-answered a second and how long one takes, where each client sends one line and waits for its reply; then the same while another client
-asks for 15 pigeons in 14 holes all the time, which nothing answers in time. The second kills the service or one of its programs
-so many times at random moments under load, and demands that all that was told as accepted stands in the journal; it goes on with
-the same file. The third tells the memory of a service and its programs before and after so many requests. The clients are one process
-on the same machine.
+The first prints for a session over a pipe, and for each number of clients of a service, how many requests and
+publications are answered a second and how long one takes, where each client sends one line and waits for its reply;
+then the same while another client asks for 15 pigeons in 14 holes all the time, which nothing answers in time. The
+second tells the memory of a service and its programs before and after so many requests. The clients are one process on
+the same machine.
 """
+from __future__ import annotations
+
 import argparse
 import contextlib
 import os
-import random
 import select
 import selectors
-import signal
 import subprocess
 import sys
 import tempfile
 import time
+from collections.abc import Iterator
 from dataclasses import dataclass
 
-from tests.servers.test_service_stops import Load
 from tests.support import program
-from tests.support.program import journal_line
 from tests.support.registry_folder import pigeons
-from tests.support.services import Service, wait_for
+from tests.support.services import Service
 
 PACKAGES, VERSIONS, COMMANDS = 8, 20, 40_000  # of the registry that is asked, and how many more fit into a journal
 REQUEST = program.resolve("app ^1").encode() + b"\n"
@@ -36,7 +33,7 @@ HOLES, BIRDS = pigeons(15)
 HARD = program.resolve(*(f"{it} *" for it in BIRDS)).encode() + b"\n"
 
 
-def registry():
+def registry() -> Iterator[str]:
     """The publications of eight packages, each of which needs the next one."""
     names = ["app", *(f"below-{number}" for number in range(1, PACKAGES))]
     for name, needed in zip(names, [*names[1:], None]):
@@ -59,17 +56,19 @@ class Publications:
 class Figure:
     """What was measured: how many were answered a second, and milliseconds of one."""
     rate: float
-    spent: list
+    spent: list[float]
 
-    def told(self):
+    def told(self) -> str:
         self.spent.sort()
         if not self.spent:
             return "    none in this time"
-        return f"{self.rate:>8,.0f} a second" + "".join(f"{1000 * self.spent[int(len(self.spent) * part)]:>9.2f}" for part in (0.5, 0.99, 0.999))
+        parts = (self.spent[int(len(self.spent) * part)] for part in (0.5, 0.99, 0.999))
+        return f"{self.rate:>8,.0f} a second" + "".join(f"{1000 * seconds:>9.2f}" for seconds in parts)
 
 
 def ask(connections, line, seconds, count=None):
-    """Has each connection, a file to read from and one to write to, ask one line after the other; until so many were answered, or so long."""
+    """Has each connection, a file to read from and one to write to, ask one line after the other; until so many were
+    answered, or so long."""
     selector, begun, spent, waiting = selectors.DefaultSelector(), {}, [], {}
     now = time.perf_counter
     for read, write in connections:
@@ -113,9 +112,10 @@ class Bench:
     def both(self, connections):
         """Requests, and then publications."""
         publications = Publications()
-        return [ask(connections, it, self.seconds, COMMANDS if it == publications.line else None) for it in (lambda: REQUEST, publications.line)]
+        return [ask(connections, lambda: REQUEST, self.seconds),
+                ask(connections, publications.line, self.seconds, COMMANDS)]
 
-    def pipe(self):
+    def pipe(self) -> list[Figure]:
         """One session of the program over a pipe, with a journal of its own."""
         with tempfile.TemporaryDirectory(dir=self.folder) as folder:
             words = [program.PROGRAM, "serve", "--workers", "1", "--journal", os.path.join(folder, "journal")]
@@ -126,7 +126,7 @@ class Bench:
                 running.stdin.close()
         return figures
 
-    def clients(self, count, is_hard=False):
+    def clients(self, count: int, is_hard: bool = False) -> list[Figure]:
         """So many clients of a service, and one more that asks what nothing answers."""
         with self.service() as service, contextlib.ExitStack() as stack:
             if is_hard:
@@ -139,67 +139,16 @@ class Bench:
 
 def compare(bench, counts):
     print("                                       answered   milliseconds: half of them, 99 and 99.9 of 100 within")
-    rows = [("a pipe", bench.pipe), *((f"{it:,} client{'s' * (it > 1)}", lambda it=it: bench.clients(it)) for it in counts),
-            *((f"{it:,} client{'s' * (it > 1)}, one hard", lambda it=it: bench.clients(it, is_hard=True)) for it in counts)]
-    for name, measured in rows:
-        for what, figure in zip(("requests", "publications"), measured()):
-            print(f"{name:<24}{what:<14}{figure.told()}", flush=True)
+    report("a pipe", bench.pipe())
+    for is_hard in (False, True):
+        for count in counts:
+            name = f"{count:,} client{'s' * (count > 1)}{', one hard' * is_hard}"
+            report(name, bench.clients(count, is_hard))
 
 
-# ---- Kills
-
-def kill(service, rng):
-    """Kills the service, the keeper, a reader, or all programs; answers which."""
-    keepers, readers = service.programs()
-    which, processes = rng.choice([("service", [service.running.pid])] * 2 + [("keeper", keepers)] * 2 + [("reader", readers[:1]), ("programs", keepers + readers)])
-    for process in processes:
-        with contextlib.suppress(ProcessLookupError):
-            os.kill(process, signal.SIGKILL)
-    return which
-
-
-def kills(folder, count, seed):
-    """Kills at random moments under load. A journal is followed for a hundred kills."""
-    rng, told, counts = random.Random(seed), 0, {}
-    for first in range(0, count, 100):
-        with tempfile.TemporaryDirectory(dir=folder) as own:
-            accepted, service, load = {}, None, None
-            for number in range(first, min(first + 100, count)):
-                if service is None:
-                    service = Service(own)
-                    load = Load(service, 4, seed=number)
-                time.sleep(rng.uniform(0.02, 0.3))
-                which = kill(service, rng)
-                counts[which] = counts.get(which, 0) + 1
-                if which == "service":
-                    service.wait()
-                    service = None
-                    told += follow(load, accepted, own)
-            # whatever was killed last, the file is gone on with
-            if service is None:
-                service = Service(own)
-                load = Load(service, 4, seed=first + 100)
-            wait_for(lambda: load.accepted)
-            load.end()
-            service.keeper()
-            wait_for(lambda: service.get("/health")[0] == 200)  # what was killed last is begun again
-            status, said = service.end()
-            assert status == 0, said
-            told += follow(load, accepted, own)
-        print(f"{min(first + 100, count):,} kills, {told:,} accepted publications, all there: {counts}", flush=True)
-    return told
-
-
-def follow(load, accepted, folder):
-    """Whether all that was accepted stands in the journal's file; answers how many publications came."""
-    load.end()
-    before = len(accepted)
-    accepted.update(load.accepted)
-    with open(os.path.join(folder, "team.journal"), "rb") as file:
-        commands = [it for it in file.read().split(b"\n")[1:] if it.startswith(b'{"name"')]
-    for revision, line in accepted.items():
-        assert commands[revision - 1:revision] == [journal_line(line).encode()], f"revision {revision} is lost: {line}"
-    return len(accepted) - before
+def report(name, figures):
+    for what, figure in zip(("requests", "publications"), figures):
+        print(f"{name:<24}{what:<14}{figure.told()}", flush=True)
 
 
 # ---- Memory
@@ -217,26 +166,24 @@ def memory(bench, count):
         for done in (1_000, count // 2, count - count // 2):
             ask(connections, lambda: REQUEST, 86_400, done)
             keepers, readers = service.programs()
-            print(f"{done:>9,} more requests: service {resident(service.running.pid):,} kB, keeper {resident(keepers[0]):,} kB, "
+            print(f"{done:>9,} more requests: service {resident(service.running.pid):,} kB, "
+                  f"keeper {resident(keepers[0]):,} kB, "
                   f"readers {', '.join(f'{resident(it):,}' for it in readers)} kB", flush=True)
 
 
 def main(words):
-    parser = argparse.ArgumentParser(prog="python3 -m bench.service", description=__doc__, formatter_class=argparse.RawDescriptionHelpFormatter)
+    parser = argparse.ArgumentParser(prog="python3 -m bench.service", description=__doc__,
+                                     formatter_class=argparse.RawDescriptionHelpFormatter)
     parser.add_argument("--clients", nargs="+", type=int, default=[1, 10, 100, 1000], metavar="N")
-    parser.add_argument("--seconds", type=float, default=5, metavar="S", help="how long each figure is measured (else: 5)")
-    parser.add_argument("--folder", metavar="DIR", help="where journals lie (else: where the system has temporary files)")
-    parser.add_argument("--kills", type=int, metavar="N", help="kill so many times, and measure nothing")
-    parser.add_argument("--seed", type=int, default=1, metavar="N", help="of the moments of kills (else: 1)")
+    parser.add_argument("--seconds", type=float, default=5, metavar="S", help="of each figure (else: 5)")
+    parser.add_argument("--folder", metavar="DIR", help="of journals (else: where the system has temporary files)")
     parser.add_argument("--memory", type=int, metavar="N", help="tell the memory before and after so many requests")
-    given = parser.parse_args(words)
-    bench = Bench(given.folder, given.seconds, ["--clients", max(1_000, *given.clients) + 10])
-    if given.kills:
-        kills(given.folder, given.kills, given.seed)
-    elif given.memory:
-        memory(bench, given.memory)
+    chosen = parser.parse_args(words)
+    bench = Bench(chosen.folder, chosen.seconds, ["--clients", max(1_000, *chosen.clients) + 10])
+    if chosen.memory:
+        memory(bench, chosen.memory)
     else:
-        compare(bench, given.clients)
+        compare(bench, chosen.clients)
     return 0
 
 

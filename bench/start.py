@@ -2,11 +2,13 @@
 
     python3 -m bench.start [--versions 1514 49152] [--rounds 10] [--program PATH]
 
-Prints for each number of publications, and for each subcommand: the median of the times by the clock, the median of the processor times
-of all that it starts, and that less what loading the journal takes, divided by what `python3 -S -c pass` takes. `page` is the page until
-its first list is answered. All are run by turns, so what else the machine does falls on each of them.
+Prints for each number of publications, and for each subcommand: the median of the times by the clock, the median of the
+processor times of all that it starts, and that less what loading the journal takes, divided by what `python3 -S -c
+pass` takes. `page` is the page until its first list is answered. All are run by turns, so what else the machine does
+falls on each of them.
 """
-import argparse
+from __future__ import annotations
+
 import os
 import resource
 import subprocess
@@ -16,10 +18,11 @@ import time
 import urllib.request
 from statistics import median
 
-from bench.ingest import PROGRAM
 from bench.lines import publish_lines
+from bench.measuring import parser, session, write
+from dev.building.progress import TOP
 
-REGISTRY = os.path.join(os.path.dirname(os.path.dirname(os.path.abspath(__file__))), "registry")
+REGISTRY = str(TOP / "registry")
 PYTHON, LOADING = "python", "loading"
 QUIET = {"stdin": subprocess.DEVNULL, "stdout": subprocess.DEVNULL, "stderr": subprocess.DEVNULL}
 
@@ -47,40 +50,41 @@ def taken(do, *words):
     return time.perf_counter() - begun, processors() - before
 
 
-def kinds(program, journal, name):
+def kinds(program: str, journal: str, name: str) -> dict[str, tuple[object, list[str]]]:
     """What is measured, by its name: how it is run, and its words."""
-    words = {"list": ["list"], "search": ["search", name[:4]], "show": ["show", name], "resolve": ["resolve", f"{name}@*"], "tree": ["tree", name],
-             "refused": ["resolve", f"{name}@>99"]}
-    return {PYTHON: (run, ["python3", "-S", "-c", "pass"]), LOADING: (run, [program, "serve", "--workers", "1", "--load", journal]),
-            **{kind: (run, [REGISTRY, *it, "--journal", journal]) for kind, it in words.items()},
+    kinds = {"list": ["list"], "search": ["search", name[:4]], "show": ["show", name],
+             "resolve": ["resolve", f"{name}@*"], "tree": ["tree", name], "refused": ["resolve", f"{name}@>99"]}
+    return {PYTHON: (run, ["python3", "-S", "-c", "pass"]),
+            LOADING: (run, [program, "serve", "--workers", "1", "--load", journal]),
+            **{kind: (run, [REGISTRY, *words, "--journal", journal]) for kind, words in kinds.items()},
             "page": (served, [REGISTRY, "page", "--journal", journal])}
 
 
-def measured(program, versions, rounds):
+def measured(program: str, versions: int, rounds: int) -> dict[str, tuple[float, float]]:
     """By kind the medians of the seconds by the clock and of processors, over a journal of so many publications."""
     lines = publish_lines(versions)
     with tempfile.TemporaryDirectory() as folder:
-        journal = os.path.join(folder, "journal")
-        subprocess.run([program, "serve", "--workers", "1", "--save", journal], input="\n".join(lines).encode() + b"\n", stdout=subprocess.DEVNULL, check=True)
+        journal, given = os.path.join(folder, "journal"), os.path.join(folder, "lines")
+        write(given, lines)
+        session(program, given, "--save", journal)
         found = kinds(program, journal, lines[0].split('"')[7])
         rows = [{kind: taken(do, words) for kind, (do, words) in found.items()} for _ in range(rounds)]
-    return {kind: tuple(median(row[kind][part] for row in rows) for part in (0, 1)) for kind in found}
+    return {kind: (median(row[kind][0] for row in rows), median(row[kind][1] for row in rows)) for kind in found}
 
 
 def main():
-    asked = argparse.ArgumentParser(description=__doc__.split("\n\n")[0])
-    asked.add_argument("--versions", type=int, nargs="+", default=[1514, 49152])
-    asked.add_argument("--rounds", type=int, default=10)
-    asked.add_argument("--program", default=PROGRAM)
-    asked = asked.parse_args()
-    os.environ["REGISTRY_PROGRAM"] = asked.program
+    options = parser(__doc__, rounds=10)
+    options.add_argument("--versions", type=int, nargs="+", default=[1514, 49152])
+    chosen = options.parse_args()
+    os.environ["REGISTRY_PROGRAM"] = chosen.program
     os.environ.pop("PYTHONDONTWRITEBYTECODE", None)  # modules have their byte code, as where they are installed
     print("versions  subcommand      clock  processors  to Python's start")
-    for versions in asked.versions:
-        found = measured(asked.program, versions, asked.rounds)
+    for versions in chosen.versions:
+        found = measured(chosen.program, versions, chosen.rounds)
         for kind, (clock, used) in found.items():
             own = used - (kind not in (PYTHON, LOADING)) * found[LOADING][1]
-            print(f"{versions:8}  {kind:10}{clock * 1000:8.0f} ms{used * 1000:9.0f} ms{own / found[PYTHON][1]:19.1f}", flush=True)
+            print(f"{versions:8}  {kind:10}{clock * 1000:8.0f} ms{used * 1000:9.0f} ms"
+                  f"{own / found[PYTHON][1]:19.1f}", flush=True)
     return 0
 
 

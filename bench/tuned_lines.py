@@ -4,29 +4,27 @@
 
 docs/BENCHMARKS.md, Constants, has what they showed. The same name gives the same lines.
 """
+from __future__ import annotations
+
 import random
 import sys
 
-from bench.workloads import about_one, crossed, publish, resolve, through_hubs
+from bench.workloads import Workload, about_one, crossed, linked, minor, publish, resolve, through_hubs
 
 STEP = 1_099_511_628_211  # of the key of a requirement, and the chains that keys fall into
 CHAINS = 16_384
 
 
-def chain_of(versions, length=60):
+def chain_of(versions: int, length: int = 60) -> Workload:
     """As the workload `chain`, of so many versions each."""
-    lines = [publish("x", (1, minor, patch), []) for minor in range(2) for patch in range(8)]
-    lines += [publish("y", (1, minor, 0), [["x", "~1.1.0"]]) for minor in range(16)]
-    for link in range(length):
-        need = ["x", "~1.0.0"] if link + 1 == length else ["c%03d" % (link + 1), "^1"]
-        lines += [publish("c%03d" % link, (1, minor, 0), [need]) for minor in range(versions)]
-    return lines, [resolve([["c000", "^1"], ["y", "^1"]])]
+    return linked(length, versions), [resolve([["c000", "^1"], ["y", "^1"]])]
 
 
-def pigeons(count, holes):
+def pigeons(count: int, holes: int) -> Workload:
     """Each pigeon needs a hole for itself."""
     lines = [publish("h%d" % hole, (pigeon + 1, 0, 0), []) for hole in range(holes) for pigeon in range(count)]
-    lines += [publish("p%d" % pigeon, (1, hole, 0), [["h%d" % hole, "^%d" % (pigeon + 1)]]) for pigeon in range(count) for hole in range(holes)]
+    lines += [minor("p%d" % pigeon, hole, ["h%d" % hole, "^%d" % (pigeon + 1)])
+              for pigeon in range(count) for hole in range(holes)]
     return lines, [resolve([["p%d" % pigeon, "*"] for pigeon in range(count)])]
 
 
@@ -34,62 +32,65 @@ def dead_chain(name, version, length):
     """Packages in a row, the last of which rules this version of a package out."""
     names = ["e%02d-%s" % (place, name) for place in range(length)]
     needs = [[[after, "^%d" % version]] for after in names[1:]] + [[[name, "<1.%d.0" % version]]]
-    return [publish(own, (version, 0, 0), need) for own, need in zip(names, needs)] + [publish(name, (1, version, 0), [[names[0], "^%d" % version]])]
+    lines = [publish(own, (version, 0, 0), need) for own, need in zip(names, needs)]
+    return lines + [minor(name, version, [names[0], "^%d" % version])]
 
 
-def dead_chains(versions, count=5, length=20):
+def dead_chains(versions: int, count: int = 5, length: int = 20) -> Workload:
     """Packages of which so many versions can't be had, which is found so many packages further."""
     names = ["d%d" % number for number in range(count)]
-    lines = [publish(name, (1, 0, 0), []) for name in names]
+    lines = [minor(name, 0) for name in names]
     for name in names:
         for version in range(1, versions + 1):
             lines += dead_chain(name, version, length)
     return lines, [resolve([[name, "*"] for name in names])]
 
 
-def wide_formulas(size=16, clauses=14, versions=200, bounds=24, count=3):
-    """As `sat`, but a variable has so many versions, and a literal is one of so many bounds on them, from below or above; so many clauses a
-    variable."""
+def wide_formulas(size: int = 16, clauses: int = 14, versions: int = 200, bounds: int = 24, count: int = 3) -> Workload:
+    """As `sat`, but a variable has so many versions, and a literal is one of so many bounds on them, from below or
+    above; so many clauses a variable."""
     rng, lines, requests = random.Random(1), [], []
     for formula in range(count):
         names = ["k%d-%04d" % (formula, number) for number in range(clauses * size)]
-        lines += [publish("x%d-%03d" % (formula, variable), (1, version, 0), []) for variable in range(size) for version in range(versions)]
+        variables = ["x%d-%03d" % (formula, variable) for variable in range(size)]
+        lines += [minor(variable, version) for variable in variables for version in range(versions)]
         for name in names:
-            for place, variable in enumerate(rng.sample(range(size), 3)):
+            for place, variable in enumerate(rng.sample(variables, 3)):
                 bound = versions * rng.randint(1, bounds) // (bounds + 1)
-                lines.append(publish(name, (1, place, 0), [["x%d-%03d" % (formula, variable), "%s1.%d.0" % (rng.choice([">=", "<"]), bound)]]))
+                lines.append(minor(name, place, [variable, "%s1.%d.0" % (rng.choice([">=", "<"]), bound)]))
         needs, hubs = through_hubs(names, "hub%d-" % formula)
         lines += hubs
         requests.append(resolve(needs))
     return lines, requests
 
 
-def needs_each(needs, count=2_000):
+def needs_each(needs: int, count: int = 2_000) -> Workload:
     """Publications with so many needs each, and no request."""
     rng, names = random.Random(needs), ["n%03d" % number for number in range(500)]
-    return [publish("p%03d" % rng.randrange(500), (1, version, 0), [[name, "^1"] for name in rng.sample(names, needs)])
+    return [minor("p%03d" % rng.randrange(500), version, *([name, "^1"] for name in rng.sample(names, needs)))
             for version in range(count)], []
 
 
-def long_requirements(count=3_000):
+def long_requirements(count: int = 3_000) -> Workload:
     """Publications whose requirements have some 10 to 60 bytes and come again, and no request."""
     rng, forms, names = random.Random(5), [], ["n%03d" % number for number in range(200)]
     for number in range(60):
         low = rng.randrange(10, 90)
-        parts = [">=1.%d.0" % low, "<2.%d.0" % low, ">=1.%d.0" % (low - 1), "<2.%d.0" % (low + 1), ">1.%d.0" % (low - 2)]
+        bounds = (">=1", low), ("<2", low), (">=1", low - 1), ("<2", low + 1), (">1", low - 2)
+        parts = ["%s.%d.0" % bound for bound in bounds]
         forms.append(", ".join(parts[:1 + number % 5]))
-    return [publish("p%03d" % (version % 250), (1, version, 0), [[name, rng.choice(forms)] for name in rng.sample(names, 6)])
+    return [minor("p%03d" % (version % 250), version, *([name, rng.choice(forms)] for name in rng.sample(names, 6)))
             for version in range(count)], []
 
 
-def chain_number(text, key=0):
+def chain_number(text: str, key: int = 0) -> int:
     """The chain into which a requirement falls, but for what its package adds."""
     for byte in text.encode():
         key = (key * STEP + byte) % CHAINS
     return key
 
 
-def in_one_chain(count):
+def in_one_chain(count: int) -> list[str]:
     """So many requirements that fall into one chain: the key adds up what both of their numbers give."""
     by_chain, found = {}, []
     for last in range(1_000, 10_000):
@@ -100,34 +101,37 @@ def in_one_chain(count):
     return found[:count]
 
 
-def one_chain(sets=17, versions=120):
-    """Refusals that rest on requirements of one package, all of which fall into one chain. Each requirement is looked for three
-    times."""
+def one_chain(sets: int = 17, versions: int = 120) -> Workload:
+    """Refusals that rest on requirements of one package, all of which fall into one chain. Each requirement is looked
+    for three times."""
     needs = in_one_chain(sets * versions)
-    lines = [publish("q", (major, 0, 0), []) for major in (1, 2)] + [publish("one", (1, 0, 0), [["q", "^1"]])]
+    lines = [publish("q", (major, 0, 0), []) for major in (1, 2)] + [minor("one", 0, ["q", "^1"])]
     for number in range(sets):
         own = needs[number * versions:(number + 1) * versions]
-        lines += [publish("a%02d" % number, (1, version, 0), [["q", need]]) for version, need in enumerate(own)]
-        lines += [publish("r%02d%s" % (number, turn), (1, 0, 0), [["a%02d" % number, "*"], ["one", "*"]]) for turn in "xyz"]
+        lines += [minor("a%02d" % number, version, ["q", need]) for version, need in enumerate(own)]
+        lines += [minor("r%02d%s" % (number, turn), 0, ["a%02d" % number, "*"], ["one", "*"]) for turn in "xyz"]
     return lines, [resolve([["r%02d%s" % (number, turn), "*"]]) for turn in "xyz" for number in range(sets)]
 
 
-def refused(count=40):
+def refused(count: int = 40) -> Workload:
     """So many requests, none of which has a version."""
-    lines = [publish("p%03d" % number, (1, 0, 0), []) for number in range(count)]
+    lines = [minor("p%03d" % number, 0) for number in range(count)]
     return lines, [resolve([["p%03d" % number, "^2"]]) for number in range(count)]
 
 
-def one_hub(count=1_024):
-    """So many members of a store that all name a package, the requests for them among the lines, and a request for that package."""
+def one_hub(count: int = 1_024) -> Workload:
+    """So many members of a store that all name a package, the requests for them among the lines, and a request for that
+    package."""
     lines, fill = about_one(count)
     return lines + fill, [crossed()]
 
 
-TUNED = {"chain of 3": lambda: chain_of(3), "chain of 6": lambda: chain_of(6), "pigeons": lambda: pigeons(6, 5),
-         "more pigeons": lambda: pigeons(8, 7), "dead chains": lambda: dead_chains(8), "longer dead chains": lambda: dead_chains(14),
-         "needs of 6": lambda: needs_each(6), "needs of 12": lambda: needs_each(12), "long requirements": long_requirements,
-         "one chain": one_chain, "refused": refused, "one hub": one_hub, "wide formulas": wide_formulas}
+TUNED = {
+    "chain of 3": lambda: chain_of(3), "chain of 6": lambda: chain_of(6), "pigeons": lambda: pigeons(6, 5),
+    "more pigeons": lambda: pigeons(8, 7), "dead chains": lambda: dead_chains(8),
+    "longer dead chains": lambda: dead_chains(14), "needs of 6": lambda: needs_each(6),
+    "needs of 12": lambda: needs_each(12), "long requirements": long_requirements, "one chain": one_chain,
+    "refused": refused, "one hub": one_hub, "wide formulas": wide_formulas}
 
 
 def main():

@@ -1,19 +1,18 @@
 """How many requests are answered a second by so many workers.
 
-    python3 -m bench.workers [--packages 300] [--requests 256] [--rounds 10] [--program PATH] [--plot FILE]
+    python3 -m bench.workers [--packages 300] [--requests 256] [--rounds 10] [--program PATH]
 
-Sends different requests of the workload `lockfile` at once, so that they are answered together, and prints for each number
-of workers the best time over the rounds until the last reply, the requests answered a second, and these as a ratio to one
-worker. Then it asks one request at a time and waits for each reply: with 64 workers that is to take no longer than with
-one. Writes a plot of the requests a second, as SVG, where a file is named.
+Sends different requests of the workload `lockfile` at once, so that they are answered together, and prints for each
+number of workers the best time over the rounds until the last reply, the requests answered a second, and these as a
+ratio to one worker. Then it asks one request at a time and waits for each reply: with 64 workers that is to take no
+longer than with one.
 """
-import argparse
+from __future__ import annotations
+
 import os
 import sys
 
-from bench.ingest import PROGRAM
-from bench.plot import svg
-from bench.resolve import Session
+from bench.measuring import Session, parser
 from bench.workloads import lockfile
 
 WORKERS = [1, 2, 4, 8, 64]
@@ -29,15 +28,14 @@ def together(program, workers, lines, requests, rounds):
     return min(spent for spent, _ in rows), rows[0][1]
 
 
-def alone(program, workers, lines, requests, rounds):
-    """The mean seconds until a request that is asked alone is answered: of each the best of the rounds."""
+def alone(program: str, workers: int, lines: list[str], requests: list[str], rounds: int) -> float:
+    """The mean seconds until a request that is asked alone is answered."""
     with Session(program, workers) as session:
         session.load(lines)
-        best = [min(session.resolve(request)[0] for _ in range(rounds)) for request in requests]
-    return sum(best) / len(best)
+        return session.best(requests, rounds)
 
 
-def by_workers(program, lines, requests, rounds):
+def by_workers(program: str, lines: list[str], requests: list[str], rounds: int) -> dict[int, float]:
     """For each number of workers the requests that are answered a second. All have the same replies."""
     rates, first = {}, None
     for workers in WORKERS:
@@ -50,24 +48,16 @@ def by_workers(program, lines, requests, rounds):
 
 
 def main():
-    asked = argparse.ArgumentParser(description=__doc__.split("\n\n")[0])
-    asked.add_argument("--packages", type=int, default=300)
-    asked.add_argument("--requests", type=int, default=256)
-    asked.add_argument("--rounds", type=int, default=10)
-    asked.add_argument("--program", default=PROGRAM)
-    asked.add_argument("--plot")
-    asked = asked.parse_args()
-    lines, requests = lockfile(asked.packages, count=asked.requests)
+    chosen = parser(__doc__, packages=300, requests=256, rounds=10).parse_args()
+    lines, requests = lockfile(chosen.packages, count=chosen.requests)
     print(f"{len(requests)} requests, {len(lines)} publications, {os.cpu_count()} processors")
-    rates = by_workers(asked.program, lines, requests, asked.rounds)
+    rates = by_workers(chosen.program, lines, requests, chosen.rounds)
     print("workers      time of all    requests a second    ratio to one worker")
     for workers, rate in rates.items():
         print(f"{workers:7}{len(requests) / rate * 1000:14.1f} ms{rate:21.0f}{rate / rates[1]:23.2f}")
-    one, most = (alone(asked.program, workers, lines, requests, asked.rounds) for workers in (1, WORKERS[-1]))
-    print(f"one request at a time: {one * 1000:.3f} ms by 1 worker, {most * 1000:.3f} ms by {WORKERS[-1]}, ratio {most / one:.2f}")
-    if asked.plot:
-        with open(asked.plot, "w", encoding="ascii") as out:
-            out.write(svg({"lockfile": list(rates.items())}, "workers", "requests answered a second"))
+    one, most = (alone(chosen.program, workers, lines, requests, chosen.rounds) for workers in (1, WORKERS[-1]))
+    print(f"one request at a time: {one * 1000:.3f} ms by 1 worker, {most * 1000:.3f} ms by {WORKERS[-1]}, "
+          f"ratio {most / one:.2f}")
     return 0
 
 

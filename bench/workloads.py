@@ -2,27 +2,43 @@
 
 Each workload is a list of publish lines and a list of resolve lines.
 """
+from __future__ import annotations
+
 import json
 import random
+from collections.abc import Iterable, Sequence
+from typing import Any
 
 from registry_cli.limits import MOST_NEEDS
 
+Numbers = tuple[int, int, int]
+Need = list[str]  # a name and a requirement
+Workload = tuple[list[str], list[str]]
 
-def publish(name, version, needs):
-    text = "%d.%d.%d" % version
-    return json.dumps({"op": "publish", "name": name, "version": text, "needs": needs}, separators=(",", ":"))
+
+def compact(value: Any) -> str:
+    return json.dumps(value, separators=(",", ":"))
 
 
-def resolve(needs):
-    return json.dumps({"op": "resolve", "needs": needs}, separators=(",", ":"))
+def publish(name: str, version: Numbers, needs: Sequence[Need]) -> str:
+    return compact({"op": "publish", "name": name, "version": "%d.%d.%d" % version, "needs": needs})
+
+
+def minor(name: str, number: int, *needs: Need) -> str:
+    """Publishes version 1.NUMBER.0."""
+    return publish(name, (1, number, 0), list(needs))
+
+
+def resolve(needs: Iterable[Need]) -> str:
+    return compact({"op": "resolve", "needs": needs})
 
 
 def rising_versions(rng):
     """10 to 60 versions of one major number, in rising order."""
     versions = [(1, 0, 0)]
     for _ in range(rng.randint(10, 60) - 1):
-        _, minor, patch = versions[-1]
-        versions.append((1, minor + 1, 0) if rng.random() < 0.4 else (1, minor, patch + 1))
+        _, number, patch = versions[-1]
+        versions.append((1, number + 1, 0) if rng.random() < 0.4 else (1, number, patch + 1))
     return versions
 
 
@@ -48,10 +64,9 @@ def requests_for(packages, rng, count):
     return [resolve(sorted(needs)) for needs in asked]
 
 
-def lockfile(size, seed=1, count=6):
-    """A registry that is lived in, and so many requests. The newest versions of all packages don't fit together, and the answer is found without
-    going back: what an upper bound leaves, each other need admits.
-    """
+def lockfile(size: int, seed: int = 1, count: int = 6) -> Workload:
+    """A registry that is lived in, and so many requests. The newest versions of all packages don't fit together, and
+    the answer is found without going back: what an upper bound leaves, each other need admits."""
     rng = random.Random(seed)
     packages, lines = lived_in(size, rng)
     return lines, requests_for(packages, rng, count)
@@ -68,77 +83,73 @@ def requirement(rng, name, versions):
 TALL = 6
 
 
-def tower(size, _seed=1):
-    """`size` storeys of two packages each, of which every version needs both packages below; the two lowest want the same
-    version of one package and different ones of another.
+def tower(size: int, _seed: int = 1) -> Workload:
+    """`size` storeys of two packages each, of which every version needs both packages below; the two lowest want the
+    same version of one package and different ones of another.
 
-    So the request is refused, and each version of each storey has to be ruled out by conflicts.
-    """
-    lines = []
-    for storey in range(size):
-        for minor in range(TALL):
-            for side in "lr":
-                lines.append(publish("%s%03d" % (side, storey), (1, minor, 0), below(size, storey, side, minor)))
-    for minor in range(TALL + 1):
-        lines.append(publish("foot", (1, minor, 0), []))
-        lines.append(publish("key", (1, minor, 0), []))
+    So the request is refused, and each version of each storey has to be ruled out by conflicts."""
+    lines = [minor("%s%03d" % (side, storey), number, *below(size, storey, side, number))
+             for storey in range(size) for number in range(TALL) for side in "lr"]
+    lines += [minor(name, number) for number in range(TALL + 1) for name in ("foot", "key")]
     return lines, [resolve([["l000", "^1"], ["r000", "^1"]])]
 
 
-def below(size, storey, side, minor):
+def below(size, storey, side, number):
     if storey + 1 == size:
-        return [["foot", "~1.%d.0" % (minor if side == "l" else minor + 1)], ["key", "~1.%d.0" % minor]]
-    span = ">=1.%d.0, <1.%d.0" % (max(0, minor - 1), minor + 1)
+        return [["foot", "~1.%d.0" % (number if side == "l" else number + 1)], ["key", "~1.%d.0" % number]]
+    span = ">=1.%d.0, <1.%d.0" % (max(0, number - 1), number + 1)
     return [["%s%03d" % (side, storey + 1), span] for side in "lr"]
 
 
 # ---- hard searches
 
-def through_hubs(names, prefix):
-    """Needs for all these packages, and the lines of packages that need 60 of them each, where they are too many for a request."""
+def through_hubs(names: Sequence[str], prefix: str) -> tuple[list[Need], list[str]]:
+    """Needs for all these packages, and the lines of packages that need 60 of them each, where they are too many for a
+    request."""
     if len(names) <= MOST_NEEDS:
         return [[name, "^1"] for name in names], []
     hubs, lines = [], []
     for at in range(0, len(names), 60):
         hubs.append("%s%04d" % (prefix, at // 60))
-        lines.append(publish(hubs[-1], (1, 0, 0), [[name, "^1"] for name in names[at:at + 60]]))
+        lines.append(minor(hubs[-1], 0, *([name, "^1"] for name in names[at:at + 60])))
     needs, more = through_hubs(hubs, prefix + "h")
     return needs, lines + more
 
 
-def partial(size, _seed=1):
-    """`size` times the conflict by which PubGrub's document explains partial satisfiers, each with packages of its own, in one
-    request. None of these conflicts has to do with another."""
+def partial(size: int, _seed: int = 1) -> Workload:
+    """`size` times the conflict by which PubGrub's document explains partial satisfiers, each with packages of its own,
+    in one request. None of these conflicts has to do with another."""
     lines, names = [], []
     for copy in range(size):
-        foo, left, right, shared, target, both = ("%s%04d" % (word, copy) for word in ("foo", "left", "right", "shared", "target", "both"))
-        lines += [publish(foo, (1, 0, 0), []), publish(foo, (1, 1, 0), [[left, "^1"], [right, "^1"]]),
-                  publish(left, (1, 0, 0), [[shared, ">=1.0.0"]]), publish(right, (1, 0, 0), [[shared, "<1.1.0"]]),
-                  publish(shared, (1, 0, 0), [[target, "~1.0.0"]]), publish(shared, (1, 1, 0), []),
-                  publish(target, (1, 0, 0), []), publish(target, (1, 1, 0), []),
-                  publish(both, (1, 0, 0), [[foo, "^1"], [target, "~1.1.0"]])]
+        words = ("foo", "left", "right", "shared", "target", "both")
+        foo, left, right, shared, target, both = ("%s%04d" % (word, copy) for word in words)
+        lines += [minor(foo, 0), minor(foo, 1, [left, "^1"], [right, "^1"]), minor(left, 0, [shared, ">=1.0.0"]),
+                  minor(right, 0, [shared, "<1.1.0"]), minor(shared, 0, [target, "~1.0.0"]), minor(shared, 1),
+                  minor(target, 0), minor(target, 1), minor(both, 0, [foo, "^1"], [target, "~1.1.0"])]
         names.append(both)
     needs, hubs = through_hubs(names, "hub")
     return lines + hubs, [resolve(needs)]
 
 
-def clauses(size, rng):
-    """A random formula: 4.26 clauses a variable, of three literals each, where half of such formulas hold of no values."""
-    return [[(variable, rng.randint(0, 1)) for variable in rng.sample(range(size), 3)] for _ in range(round(4.26 * size))]
+def clauses(size: int, rng: random.Random) -> list[list[tuple[int, int]]]:
+    """A random formula: 4.26 clauses a variable, of three literals each, where half of such formulas hold of no
+    values."""
+    return [[(variable, rng.randint(0, 1)) for variable in rng.sample(range(size), 3)]
+            for _ in range(round(4.26 * size))]
 
 
-def sat(size, seed=1, count=6):
-    """So many random formulas of `size` variables, and a request for each. The two versions of a variable's package are its
-    values, the three of a clause's package need one of its literals each."""
+def sat(size: int, seed: int = 1, count: int = 6) -> Workload:
+    """So many random formulas of `size` variables, and a request for each. The two versions of a variable's package are
+    its values, the three of a clause's package need one of its literals each."""
     rng = random.Random(seed)
     lines, requests = [], []
     for formula in range(count):
         names = []
         for variable in range(size):
-            lines += [publish("x%d-%03d" % (formula, variable), (1, value, 0), []) for value in (0, 1)]
+            lines += [minor("x%d-%03d" % (formula, variable), value) for value in (0, 1)]
         for number, literals in enumerate(clauses(size, rng)):
             names.append("k%d-%04d" % (formula, number))
-            lines += [publish(names[-1], (1, place, 0), [["x%d-%03d" % (formula, variable), "~1.%d.0" % value]])
+            lines += [minor(names[-1], place, ["x%d-%03d" % (formula, variable), "~1.%d.0" % value])
                       for place, (variable, value) in enumerate(literals)]
         needs, hubs = through_hubs(names, "hub%d-" % formula)
         lines += hubs
@@ -149,13 +160,14 @@ def sat(size, seed=1, count=6):
 VERSIONS, WINDOW = 5, 3
 
 
-def conflicting(size, seed=1, count=16):
-    """A random registry of `size` packages of five versions, of which each needs two others by a window of three versions, and so many
-    requests. There are many selections for most, and which one a search finds first hangs on what was learnt before."""
+def conflicting(size: int, seed: int = 1, count: int = 16) -> Workload:
+    """A random registry of `size` packages of five versions, of which each needs two others by a window of three
+    versions, and so many requests. There are many selections for most, and which one a search finds first hangs on what
+    was learnt before."""
     rng = random.Random(seed)
     names = ["w%03d" % place for place in range(size)]
-    lines = [publish(name, (1, minor, 0), [[other, window(rng)] for other in rng.sample([it for it in names if it != name], 2)])
-             for name in names for minor in range(VERSIONS)]
+    lines = [minor(name, number, *([other, window(rng)] for other in rng.sample([it for it in names if it != name], 2)))
+             for name in names for number in range(VERSIONS)]
     requests = []
     for _ in range(count):
         forms = ["*", "*", "^1.%d.0" % rng.randrange(VERSIONS), "<=1.%d.0" % rng.randrange(VERSIONS)]
@@ -175,37 +187,44 @@ def window(rng):
 SESSION = 200
 
 
-def worn(size, seed=1):
-    """A registry that is lived in, in which the newest version of each third package can't be had: it needs a package that
-    needs an older version of the first. So a request meets a conflict for each of them that it reaches."""
+def worn(size: int, seed: int = 1) -> Workload:
+    """A registry that is lived in, in which the newest version of each third package can't be had: it needs a package
+    that needs an older version of the first. So a request meets a conflict for each of them that it reaches."""
     rng = random.Random(seed)
     packages, lines = lived_in(size, rng)
     for name, versions in packages[::3]:
-        major, minor, _ = versions[-1]
-        lines.append(publish(name, (major, minor + 1, 0), [[name + "-next", "^1"]]))
-        lines.append(publish(name + "-next", (1, 0, 0), [[name, "<%d.%d.0" % (major, minor + 1)]]))
+        major, number, _ = versions[-1]
+        lines.append(publish(name, (major, number + 1, 0), [[name + "-next", "^1"]]))
+        lines.append(minor(name + "-next", 0, [name, "<%d.%d.0" % (major, number + 1)]))
     return lines, requests_for(packages, rng, SESSION)
 
 
-def towers(size, seed=1):
-    """`tower`, and requests that begin at any two storeys, which are refused for the same reason. The first is that of `tower`."""
+def towers(size: int, seed: int = 1) -> Workload:
+    """`tower`, and requests that begin at any two storeys, which are refused for the same reason. The first is that of
+    `tower`."""
     lines, requests = tower(size)
     pairs = [(left, right) for left in range(size) for right in range(size) if (left, right) != (0, 0)]
     random.Random(seed).shuffle(pairs)
-    return lines, requests + [resolve([["l%03d" % left, "^1"], ["r%03d" % right, "^1"]]) for left, right in pairs[:SESSION - 1]]
+    return lines, requests + [resolve([["l%03d" % left, "^1"], ["r%03d" % right, "^1"]])
+                              for left, right in pairs[:SESSION - 1]]
 
 
-def chain(size, seed=1):
-    """`size` packages of ten versions, of which each needs the next one; the last needs other versions of `x` than `y` does.
-    The requests are for `y` and for the first link, or for any two."""
-    lines = [publish("x", (1, minor, patch), []) for minor in range(2) for patch in range(8)]
-    lines += [publish("y", (1, minor, 0), [["x", "~1.1.0"]]) for minor in range(16)]
+def linked(size: int, versions: int = 10) -> list[str]:
+    """`size` packages of so many versions, of which each needs the next one; the last needs other versions of `x` than
+    `y` does."""
+    lines = [publish("x", (1, number, patch), []) for number in range(2) for patch in range(8)]
+    lines += [minor("y", number, ["x", "~1.1.0"]) for number in range(16)]
     for link in range(size):
         need = ["x", "~1.0.0"] if link + 1 == size else ["c%03d" % (link + 1), "^1"]
-        lines += [publish("c%03d" % link, (1, minor, 0), [need]) for minor in range(10)]
+        lines += [minor("c%03d" % link, number, need) for number in range(versions)]
+    return lines
+
+
+def chain(size: int, seed: int = 1) -> Workload:
+    """`linked` packages. The requests are for `y` and for the first link, or for any two."""
     pairs = [(one, other) for other in range(size) for one in range(other)]
     random.Random(seed).shuffle(pairs)
-    return lines, [resolve([["c000", "^1"], ["y", "^1"]])] + [
+    return linked(size), [resolve([["c000", "^1"], ["y", "^1"]])] + [
         resolve([["c%03d" % one, "^1"], ["c%03d" % other, "^1"], ["y", "^1"]]) for one, other in pairs[:SESSION - 1]]
 
 
@@ -217,39 +236,39 @@ def in_parts(names, needs):
     return [resolve([*needs, *([name, "*"] for name in names[at:at + most])]) for at in range(0, len(names), most)]
 
 
-def dead_ends(count):
-    """Packages whose newest version needs one that needs the older: that it can't be had is learnt of each, and names that
-    package alone."""
+def dead_ends(count: int) -> Workload:
+    """Packages whose newest version needs one that needs the older: that it can't be had is learnt of each, and names
+    that package alone."""
     lines, names = [], ["d%05d" % number for number in range(count)]
     for name in names:
-        lines += [publish(name, (1, 0, 0), []), publish(name, (1, 1, 0), [["for-" + name, "^1"]]),
-                  publish("for-" + name, (1, 0, 0), [[name, "<1.1.0"]])]
+        lines += [minor(name, 0), minor(name, 1, ["for-" + name, "^1"]), minor("for-" + name, 0, [name, "<1.1.0"])]
     return lines, in_parts(names, [])
 
 
 ROWS = 8
 
 
-def about_one(count):
-    """Packages whose newest version goes with the first version of `hub` alone: it needs a version of `x` that needs that. It is
-    learnt of each, and names it and `hub`. And what `crossed` asks for."""
+def about_one(count: int) -> Workload:
+    """Packages whose newest version goes with the first version of `hub` alone: it needs a version of `x` that needs
+    that. It is learnt of each, and names it and `hub`. And what `crossed` asks for."""
     names = ["d%05d" % number for number in range(count)]
-    lines = [publish("x", (1, row, patch), [["hub", "~1.0.0"]] if row == 1 else []) for row in range(ROWS + 1) for patch in range(3)]
-    lines += [publish("hub", (1, 0, 0), []), publish("hub", (1, 1, 0), []), publish("low", (1, 0, 0), [["x", "<1.2.0"]]),
-              publish("high", (1, 0, 0), [["x", ">=1.1.0, <1.3.0"]])]
+    lines = [publish("x", (1, row, patch), [["hub", "~1.0.0"]] if row == 1 else [])
+             for row in range(ROWS + 1) for patch in range(3)]
+    lines += [minor("hub", 0), minor("hub", 1), minor("low", 0, ["x", "<1.2.0"]),
+              minor("high", 0, ["x", ">=1.1.0, <1.3.0"])]
     for row in range(ROWS):
-        lines += [publish("k", (1, row, 0), []), publish("l", (1, row, 0), [["x", "~1.%d.0" % row], ["k", "~1.%d.0" % row]]),
-                  publish("r", (1, row, 0), [["x", "~1.%d.0" % (row + 1)], ["k", "~1.%d.0" % row]])]
+        lines += [minor("k", row), minor("l", row, ["x", "~1.%d.0" % row], ["k", "~1.%d.0" % row]),
+                  minor("r", row, ["x", "~1.%d.0" % (row + 1)], ["k", "~1.%d.0" % row])]
     for name in names:
-        lines += [publish(name, (1, 0, 0), []), publish(name, (1, 1, 0), [["high", "^1"], ["low", "^1"]])]
+        lines += [minor(name, 0), minor(name, 1, ["high", "^1"], ["low", "^1"])]
     return lines, in_parts(names, [["hub", "~1.1.0"]])
 
 
-def crossed():
+def crossed() -> str:
     """A request for `hub`, and of many conflicts on `x`: no version of `l` goes with one of `r`."""
     return resolve([["hub", "~1.1.0"], ["l", "^1"], ["r", "^1"]])
 
 
 SHARED = {"tower": (towers, 16), "chain": (chain, 30), "worn": (worn, 300)}
-WORKLOADS = {"lockfile": (lockfile, (100, 300, 900)), "tower": (tower, (7, 20, 60)), "partial": (partial, (30, 170, 1000)),
-             "sat": (sat, (20, 40, 80))}
+WORKLOADS = {"lockfile": (lockfile, (100, 300, 900)), "tower": (tower, (7, 20, 60)),
+             "partial": (partial, (30, 170, 1000)), "sat": (sat, (20, 40, 80))}

@@ -6,6 +6,8 @@ Comparisons are turned, constants changed, conditions made true or false, `None`
 statements deleted. Each mutant is tried in a copy of this folder by the files of tests that are given, else by those
 that name the file. A mutant may remove whatever its tests may: where this is root, they run as nobody.
 """
+from __future__ import annotations
+
 import argparse
 import ast
 import contextlib
@@ -17,23 +19,26 @@ import signal
 import subprocess
 import sys
 import tempfile
+from collections.abc import Iterator, Sequence
 from pathlib import Path
+from typing import Any
 
 from dev.building.programs import path_for_tests
+from dev.building.progress import TOP
 from dev.testing.run import PYTEST
 
-TOP = Path(__file__).resolve().parent.parent
-TURNED = {ast.Eq: ast.NotEq, ast.NotEq: ast.Eq, ast.Lt: ast.LtE, ast.LtE: ast.Lt, ast.Gt: ast.GtE, ast.GtE: ast.Gt,
-          ast.In: ast.NotIn, ast.NotIn: ast.In, ast.Is: ast.IsNot, ast.IsNot: ast.Is,
-          ast.And: ast.Or, ast.Or: ast.And, ast.Add: ast.Sub, ast.Sub: ast.Add, ast.Mult: ast.Add}
+TURNED: dict[type[ast.AST], type[ast.AST]] = {
+    ast.Eq: ast.NotEq, ast.NotEq: ast.Eq, ast.Lt: ast.LtE, ast.LtE: ast.Lt, ast.Gt: ast.GtE, ast.GtE: ast.Gt,
+    ast.In: ast.NotIn, ast.NotIn: ast.In, ast.Is: ast.IsNot, ast.IsNot: ast.Is, ast.And: ast.Or, ast.Or: ast.And,
+    ast.Add: ast.Sub, ast.Sub: ast.Add, ast.Mult: ast.Add}
 DELETED = (ast.Expr, ast.Assign, ast.AugAssign, ast.Raise, ast.Assert, ast.Break, ast.Continue, ast.Delete)
 # how many times as long as without a mutant tests may take, and seconds beside that
 TIMES, PATIENCE = 4, 20
 NULL = subprocess.DEVNULL
-NOBODY = {"user": 65_534, "group": 65_534, "extra_groups": []} if os.geteuid() == 0 else {}
+NOBODY: dict[str, Any] = {"user": 65_534, "group": 65_534, "extra_groups": []} if os.geteuid() == 0 else {}
 
 
-def mutants(text):
+def mutants(text: str) -> Iterator[tuple[int, str, str]]:
     """Each mutant of a source that can be compiled: its line, what is told of it, and its text."""
     tree = ast.parse(text)
     for node in list(ast.walk(tree)):
@@ -53,14 +58,14 @@ def mutants(text):
                         yield line, " ".join(told.split())[:160], made
 
 
-def is_compiled(text):
+def is_compiled(text: str) -> bool:
     try:
         return bool(compile(text, "a mutant", "exec"))
     except SyntaxError:
         return False
 
 
-def changes(parent, field, node):
+def changes(parent: ast.AST, field: str, node: ast.AST) -> Iterator[ast.AST]:
     """What may stand in the place of a node."""
     if type(node) in TURNED:
         yield TURNED[type(node)]()
@@ -79,12 +84,12 @@ def changes(parent, field, node):
         yield ast.Pass()
 
 
-def status(copy, tests, seconds=None):
+def status(copy: Path, tests: Sequence[Path], seconds: float | None = None) -> int:
     """How these files of tests end in a copy of the folder: a mutant may keep them from ending at all."""
-    given = {**os.environ, "HOME": str(copy), "TMPDIR": str(copy), "PYTHONDONTWRITEBYTECODE": "1"}
-    given |= {name.upper(): path_for_tests(name) for name in ("registryd", "probe", "embedded")}
-    with subprocess.Popen([*PYTEST, "-x", "-p", "no:cacheprovider", *map(str, tests)], cwd=copy, env=given, stdin=NULL,
-                          stdout=NULL, stderr=NULL, start_new_session=True, **NOBODY) as running:
+    environment = {**os.environ, "HOME": str(copy), "TMPDIR": str(copy), "PYTHONDONTWRITEBYTECODE": "1"}
+    environment |= {name.upper(): path_for_tests(name) for name in ("registryd", "probe", "embedded")}
+    with subprocess.Popen([*PYTEST, "-x", "-p", "no:cacheprovider", *map(str, tests)], cwd=copy, env=environment,
+                          stdin=NULL, stdout=NULL, stderr=NULL, start_new_session=True, **NOBODY) as running:
         try:
             return running.wait(seconds)
         except subprocess.TimeoutExpired:
@@ -94,16 +99,16 @@ def status(copy, tests, seconds=None):
                 os.killpg(running.pid, signal.SIGKILL)
 
 
-def main(words):
+def main(words: Sequence[str]) -> int:
     parser = argparse.ArgumentParser(prog="python3 -m dev.mutate", description=__doc__.partition("\n")[0])
     parser.add_argument("file", type=Path, metavar="FILE")
     parser.add_argument("tests", type=Path, nargs="*", metavar="TEST")
     parser.add_argument("--most", type=int, metavar="N", help="try so many mutants, taken at random")
-    given = parser.parse_args(words)
-    file, text = given.file.resolve().relative_to(TOP), given.file.read_text(encoding="utf-8")
+    chosen = parser.parse_args(words)
+    file, text = chosen.file.resolve().relative_to(TOP), chosen.file.read_text(encoding="utf-8")
     named = re.compile(rf"\b{re.escape(file.stem)}\b")
-    tests = [it.resolve().relative_to(TOP) for it in given.tests or sorted(TOP.glob("**/test_*.py"))
-             if given.tests or named.search(it.read_text(encoding="utf-8"))]
+    tests = [it.resolve().relative_to(TOP) for it in chosen.tests or sorted(TOP.glob("**/test_*.py"))
+             if chosen.tests or named.search(it.read_text(encoding="utf-8"))]
     with tempfile.TemporaryDirectory(prefix="mutate-") as folder:
         copy = Path(folder, "tree")
         shutil.copytree(TOP, copy, ignore=shutil.ignore_patterns(".git", "out", "__pycache__"), symlinks=True)
@@ -112,7 +117,7 @@ def main(words):
         if not tests or status(copy, tests):
             parser.error(f"no tests of {file} pass without a mutant: {' '.join(map(str, tests))}")
         seconds, found = TIMES * (os.times().elapsed - begun) + PATIENCE, list(mutants(text))
-        tried, left = random.Random(1).sample(found, min(given.most or len(found), len(found))), []
+        tried, left = random.Random(1).sample(found, min(chosen.most or len(found), len(found))), []
         for line, told, made in sorted(tried):
             (copy / file).unlink(missing_ok=True)
             shutil.copy2(TOP / file, copy / file)

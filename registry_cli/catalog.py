@@ -105,6 +105,11 @@ def listed_in(text: bytes) -> dict[str, list[Listed]]:
     return listed
 
 
+def line_of(command: Request) -> bytes:
+    """A command as a journal has it."""
+    return json.dumps(command, sort_keys=True, separators=(",", ":"), ensure_ascii=False).encode()
+
+
 class Catalog:
     """The packages of a journal's text, and the lines that each has there."""
 

@@ -53,9 +53,9 @@ class Fault(Exception):
     """Why a derivation does not follow. What can't be judged at all is a ValueError."""
 
 
-def demand(holds: object, told: str, kind: type[Exception] = Fault) -> None:
+def demand(holds: object, why: str, kind: type[Exception] = Fault) -> None:
     if not holds:
-        raise kind(told)
+        raise kind(why)
 
 
 def formed(value: Any, form: object) -> bool:
@@ -347,13 +347,13 @@ def main(words: Sequence[str]) -> int:
     parser.add_argument("--journal")
     parser.add_argument("lines")
     parser.add_argument("replies", nargs="?")
-    given = parser.parse_args(words)
+    options = parser.parse_args(words)
     try:
-        lines = read_lines(given.lines)
-        requests, replies = (lines, read_lines(given.replies)) if given.replies else (lines[::2], lines[1::2])
+        lines = read_lines(options.lines)
+        requests, replies = (lines, read_lines(options.replies)) if options.replies else (lines[::2], lines[1::2])
         counts = f"{len(requests)} request lines and {len(replies)} replies"
         demand(len(requests) == len(replies), f"there are {counts}", ValueError)
-        return audit(requests, replies, read_journal(given.journal) if given.journal else None)
+        return audit(requests, replies, read_journal(options.journal) if options.journal else None)
     except (ValueError, OSError) as fault:
         print(f"there is no judging it: {fault}")
         return 2

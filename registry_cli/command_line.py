@@ -10,7 +10,7 @@ from .table import COMMON, SUBCOMMANDS, subcommand
 if TYPE_CHECKING:
     from collections.abc import Sequence
 
-    from .shapes import Given
+    from .shapes import Options
     from .table import Subcommand, Word
 
 HELP = "`registry --help`"
@@ -80,7 +80,7 @@ def parted(found: Subcommand, words: Sequence[str]) -> list[str]:
     return made
 
 
-def read(found: Subcommand, words: Sequence[str]) -> Given:
+def read(found: Subcommand, words: Sequence[str]) -> Options:
     """The values of a subcommand's words by their names. To load argparse takes longer than most subcommands: it reads
     only what asks for help, is written in a rare way, or is wrong."""
     try:
@@ -93,22 +93,22 @@ def read(found: Subcommand, words: Sequence[str]) -> Given:
 def plain(found: Subcommand, words: Sequence[str]) -> dict[str, object]:
     """The same of words that are written as the table has them; a ValueError where others are among them."""
     options = {flag: it for it in (*found.words, *COMMON) for flag in flags(it)}
-    given: dict[str, object] = {it.member: it.default if it.names else False for it in (*found.words, *COMMON)}
+    values: dict[str, object] = {it.member: it.default if it.names else False for it in (*found.words, *COMMON)}
     free, rest = [], iter(words)
     for text in rest:
         option = options.get(text)
         if option is None:
             free.append(text)
         else:
-            given[option.member] = value(option, [next(rest, "-") for _ in option.names])
+            values[option.member] = value(option, [next(rest, "-") for _ in option.names])
     for word in found.words:
         if word.many == "*" and not word.flag:
-            given[word.member], free = [value(word, [text]) for text in free], []
+            values[word.member], free = [value(word, [text]) for text in free], []
         elif not word.flag and (free or not word.many):
-            given[word.member], free = value(word, free[:1]), free[1:]
+            values[word.member], free = value(word, free[:1]), free[1:]
     if free:
         raise ValueError(free)
-    return given
+    return values
 
 
 def value(word: Word, texts: list[str]) -> bool | int | str | list[str]:

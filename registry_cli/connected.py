@@ -12,7 +12,7 @@ import time
 from collections import deque
 
 from . import TYPE_CHECKING, near_limits
-from .catalog import commands_in
+from .catalog import commands_in, line_of
 from .failures import Failed, Refused
 from .searching import asking
 from .session import EMPTY
@@ -69,11 +69,6 @@ def page_of_service(address: str, target: str) -> bytes:
 def journal_of_service(address: str, revision: int | None = None) -> bytes:
     """The journal of a service as a file has it: as it stands, or as it stood at a revision."""
     return page_of_service(address, "/journal" + ("" if revision is None else f"?revision={revision}"))
-
-
-def line_of(request: Request) -> bytes:
-    """A request as a journal has it, where it is a command."""
-    return json.dumps(request, sort_keys=True, separators=(",", ":"), ensure_ascii=False).encode()
 
 
 class Connected:

@@ -44,7 +44,7 @@ class InUse(Failed):
     """Another session has the journal."""
 
 
-def told(fault: OSError) -> str:
+def one_line(fault: OSError) -> str:
     """An operating system's error in one line, with its file."""
     reason = fault.strerror or str(fault)
     return f"{fault.filename}: {reason}" if fault.filename else reason

@@ -4,9 +4,10 @@ from __future__ import annotations
 import os
 
 from . import TYPE_CHECKING
-from .failures import Failed, told
+from .failures import Failed, one_line
 
 if TYPE_CHECKING:
+    from collections.abc import Callable
     from pathlib import Path
 
 MOST_BYTES = 2 ** 28  # of a file that is imported
@@ -17,7 +18,7 @@ def read_file(path: str) -> bytes:
         with open(path, "rb") as file:
             return file.read()
     except OSError as fault:
-        raise Failed(told(fault)) from None
+        raise Failed(one_line(fault)) from None
 
 
 def read_bounded(path: str | Path) -> bytes:
@@ -38,27 +39,33 @@ def read_plain(path: str | Path) -> bytes:
 
 def write_file(path: str, text: str) -> None:
     """Puts a text in the place of a file. A link stays one, and the mode is as it was."""
-    import tempfile
     path = os.path.realpath(path)
-    new = None
     try:
         if os.path.exists(path) and not os.path.isfile(path):  # a device is written itself
             with open(path, "w", encoding="utf-8") as file:
                 file.write(text)
             return
         mode = os.stat(path).st_mode & 0o7777 if os.path.exists(path) else 0o666 & ~umask()
-        number, new = tempfile.mkstemp(prefix=os.path.basename(path) + ".", dir=os.path.dirname(path))
-        with open(number, "w", encoding="utf-8") as file:
+        write_whole(path, text.encode(), mode, os.replace)
+    except OSError as fault:
+        raise Failed(f"{path} is not written: {fault.strerror or fault}") from None
+
+
+def write_whole(path: str, text: bytes, mode: int, place: Callable[[str, str], object]) -> None:
+    """Writes a file beside its place, and once it is whole has `place` give it that name."""
+    import tempfile
+    number, new = tempfile.mkstemp(prefix=os.path.basename(path) + ".", dir=os.path.dirname(path))
+    try:
+        with open(number, "wb") as file:
             file.write(text)
             file.flush()
             os.fchmod(number, mode)
             os.fsync(number)
-        os.replace(new, path)
-        sync_folder(os.path.dirname(path))
-    except OSError as fault:
-        if new and os.path.exists(new):
+        place(new, path)
+    finally:
+        if os.path.lexists(new):
             os.unlink(new)
-        raise Failed(f"{path} is not written: {fault.strerror or fault}") from None
+    sync_folder(os.path.dirname(path))
 
 
 def umask() -> int:

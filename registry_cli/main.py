@@ -9,7 +9,7 @@ import signal
 import sys
 
 from . import TYPE_CHECKING, command_line
-from .failures import DONE, FAILED, INTERRUPTED, NO_READER, USAGE, Failed, Failure, Usage, told
+from .failures import DONE, FAILED, INTERRUPTED, NO_READER, USAGE, Failed, Failure, Usage, one_line
 from .output import Output, choose, fail
 
 if TYPE_CHECKING:
@@ -27,11 +27,11 @@ def run(words: list[str], out: Output) -> int:
     found, rest = command_line.split(command_line.asked_help(words))
     if found is None:
         return general(rest)
-    given = command_line.read(found, rest)
-    given.subcommand = found.name
-    choose(given)
+    options = command_line.read(found, rest)
+    options.subcommand = found.name
+    choose(options)
     module = importlib.import_module(f".commands.{found.module}", __package__)
-    status: int | None = module.run(given, out)
+    status: int | None = module.run(options, out)
     return status or DONE
 
 
@@ -101,7 +101,7 @@ def unwritten(fault: OSError) -> str:
     if fault.errno in FULL and not fault.filename:  # whoever writes a file names it
         fault.filename = "standard output"
         write_no_more()
-    return told(fault)
+    return one_line(fault)
 
 
 def write_no_more() -> None:

@@ -14,7 +14,7 @@ from .locks import DEFAULT, Unread, lock_of
 if TYPE_CHECKING:
     from collections.abc import Sequence
 
-    from .shapes import Given, Pairs
+    from .shapes import Options, Pairs
 
 NEED = re.compile(r"\s*([^@\s]*)(?:(?:\s*@\s*|\s+)(.*))?", re.S)  # of a text without white space at its end
 # what other tools have in place of the @: `log==1.0.0`, `log:1.0.0`, `log-1.0.0`, `log/1.0.0`, `log(>=1)`
@@ -128,10 +128,10 @@ def needs_known(typed: Sequence[str] | None, lock: str) -> Pairs | None:
     return lock_of(lock).needs if os.path.exists(lock) else None
 
 
-def needs_given(given: Given) -> Pairs:
+def needs_given(options: Options) -> Pairs:
     """The same of the lock file that the words name, which have to be known."""
-    lock = getattr(given, "lock", None) or getattr(given, "write", None) or DEFAULT
-    needs = needs_known(given.need, lock)
+    lock = getattr(options, "lock", None) or getattr(options, "write", None) or DEFAULT
+    needs = needs_known(options.need, lock)
     if needs is None:
         where = f"write it into {needs_path(lock)}, a name and a requirement a line"
         raise Usage(f"name what is needed, as app@^1, or {where}")

@@ -14,7 +14,7 @@ if TYPE_CHECKING:
     from typing import TextIO
 
     from .failures import Failure
-    from .shapes import Given
+    from .shapes import Options
 
 STYLES = {"bold": "1", "faint": "2", "red": "31", "green": "32", "yellow": "33"}
 # stands for the beginning of a colour's code until a line is printed: no text has it by chance
@@ -37,11 +37,11 @@ class Choice(namedtuple("Choice", "color is_quiet is_verbose seconds begun", def
 usual = chosen = Choice()  # of the shell that obeys a command line, and of that line
 
 
-def choose(given: Given | None = None) -> None:
+def choose(options: Options | None = None) -> None:
     """Obeys these options, and where they say nothing those of the shell."""
     global chosen
-    chosen = Choice(given.color or usual.color, given.quiet or usual.is_quiet, given.verbose or usual.is_verbose,
-                    getattr(given, "limit", 0), time.monotonic()) if given else usual
+    chosen = Choice(options.color or usual.color, options.quiet or usual.is_quiet, options.verbose or usual.is_verbose,
+                    getattr(options, "limit", 0), time.monotonic()) if options else usual
 
 
 def keep_choice(kept: Choice) -> Choice:

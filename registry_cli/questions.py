@@ -8,13 +8,14 @@ are yanked. A derivation that this session tells is told back over the packages 
 from __future__ import annotations
 
 from . import TYPE_CHECKING
+from .catalog import line_of
 from .check_derivation import ALWAYS, ROOT, read_version, resolve
 from .derivation import Holding
 from .failures import Refused
 from .journal_file import Over, journal_text
 from .limits import MOST_COMMANDS, MOST_NEEDS, MOST_REQUIREMENT_BYTES
 from .packages import named
-from .renewal import commands_of, line_of, releases_of
+from .renewal import commands_of, releases_of
 
 if TYPE_CHECKING:
     from collections.abc import Collection, Iterable, Iterator, Mapping, Sequence

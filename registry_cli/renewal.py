@@ -3,7 +3,6 @@ package, and what those need. What these need is asked of the program: so whatev
 alone and by its lock file."""
 from __future__ import annotations
 
-import json
 from typing import TYPE_CHECKING, NamedTuple
 
 from .check_derivation import precedence
@@ -144,8 +143,3 @@ def commands_of(releases: Releases, kept: Collection[Key]) -> Iterator[Request]:
             yield {"op": "publish", "name": it.name, "version": it.text, "needs": it.needs}
             if it.is_yanked:
                 yield {"op": "yank", "name": it.name, "version": it.text}
-
-
-def line_of(command: Request) -> bytes:
-    """The line of a command in a journal's file."""
-    return json.dumps(command, sort_keys=True, separators=(",", ":")).encode()

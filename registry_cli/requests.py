@@ -13,17 +13,17 @@ if TYPE_CHECKING:
     from collections.abc import Iterator, Mapping, Sequence
 
     from .output import Output
-    from .shapes import Asking, Given, Listed, Pairs, Reading, Reply, Request
+    from .shapes import Asking, Listed, Options, Pairs, Reading, Reply, Request
 
 
-def request_of(given: Given, lock: Mapping[str, str] | None = None) -> Request:
+def request_of(options: Options, lock: Mapping[str, str] | None = None) -> Request:
     """The resolve line of some words: the needs that are typed or kept, and the lock file that is named, or this
     lock."""
     if lock is None:
-        lock = lock_of(given.lock).selected if given.lock else {}
+        lock = lock_of(options.lock).selected if options.lock else {}
     kept = [list(it) for it in sorted(lock.items())]
-    request: Request = {"op": "resolve", "needs": needs_given(given), "lock": kept, "explain": True}
-    budget: int | None = getattr(given, "budget", None)
+    request: Request = {"op": "resolve", "needs": needs_given(options), "lock": kept, "explain": True}
+    budget: int | None = getattr(options, "budget", None)
     if budget is not None:
         request["budget"] = budget
     return request

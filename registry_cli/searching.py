@@ -58,13 +58,13 @@ class Alarm:
     """Ends by an exception what the main thread does, if that is not done after some seconds; never where these are
     0."""
 
-    def __init__(self, seconds: float, told: str) -> None:
-        self.seconds, self.told, self.is_set = seconds, told, False
+    def __init__(self, seconds: float, why: str) -> None:
+        self.seconds, self.why, self.is_set = seconds, why, False
 
     def ring(self, *_: object) -> None:
         if self.is_set:
             self.is_set = False
-            raise Unanswered(self.told)
+            raise Unanswered(self.why)
 
     def __enter__(self) -> None:
         if self.seconds:

@@ -11,7 +11,7 @@ import threading
 import time
 
 from . import TYPE_CHECKING, bar, near_limits, tied
-from .failures import Failed, InUse, Refused, Usage, told
+from .failures import Failed, InUse, Refused, Usage, one_line
 from .program import program
 from .searching import asking
 
@@ -21,7 +21,7 @@ if TYPE_CHECKING:
 
     from . import shapes, shell
     from .connected import Connected
-    from .shapes import Given, Reply, Request
+    from .shapes import Options, Reply, Request
 
     class HasText(Protocol):
         """What has a journal's text."""
@@ -56,40 +56,40 @@ REASONS = [
 standing: shell.Standing | None = None  # what a shell keeps open: see shell.py
 
 
-def journal_of(given: Given) -> str:
+def journal_of(options: Options) -> str:
     """The path of the journal that the words name, else that of the shell, else the environment, else the one in this
     folder."""
-    return given.journal or (standing and standing.path) or os.environ.get(VARIABLE) or DEFAULT
+    return options.journal or (standing and standing.path) or os.environ.get(VARIABLE) or DEFAULT
 
 
-def service_of(given: Given) -> str | None:
+def service_of(options: Options) -> str | None:
     """The address of the service that the words name, else, where they name no journal, that of the shell or the
     environment."""
-    if given.connect and given.journal:
+    if options.connect and options.journal:
         raise Usage("--connect can't be used with --journal: a service has its own journal")
-    if given.connect or given.journal:
-        return given.connect
+    if options.connect or options.journal:
+        return options.connect
     return standing.service if standing else os.environ.get(SERVICE)
 
 
-def patience_of(given: Given) -> float:
+def patience_of(options: Options) -> float:
     """How many seconds a session waits for another one: as the words say, else those of the shell."""
-    named: int | None = getattr(given, "wait", None)
+    named: int | None = getattr(options, "wait", None)
     return named if named is not None else standing.patience if standing else SECONDS
 
 
-def reading(given: Given) -> shapes.Reading:
+def reading(options: Options) -> shapes.Reading:
     """A session that reads. It answers `ask`, `each`, `journal`, `commands` and `close`, and one over a service answers
     the same."""
-    service, path = service_of(given), journal_of(given)
+    service, path = service_of(options), journal_of(options)
     if service:
         return connected(service)
-    return (standing and standing.lent(path, patience=patience_of(given))) or Reading(path)
+    return (standing and standing.lent(path, patience=patience_of(options))) or Reading(path)
 
 
-def writing(given: Given) -> shapes.Asking:
+def writing(options: Options) -> shapes.Asking:
     """A session whose commands are kept."""
-    service, path, patience = service_of(given), journal_of(given), patience_of(given)
+    service, path, patience = service_of(options), journal_of(options), patience_of(options)
     if service:
         return connected(service)
     return (standing and standing.lent(path, True, patience)) or Writing(path, patience)
@@ -124,7 +124,7 @@ def snapshot(path: str) -> bytes:
         raise Failed(f"{path}: there is no such journal: `registry publish` or `registry import` begins one, and "
                      f"--journal FILE names another") from None
     except OSError as fault:
-        raise Failed(told(fault)) from None
+        raise Failed(one_line(fault)) from None
     if not is_ended:
         text = text[:text.rfind(b"\n") + 1] or HEAD
         return text + b"end %d\n" % (text.count(b"\n") - 1)
@@ -165,7 +165,7 @@ class Session:
             self.process = tied.Tied(words, stdin=subprocess.PIPE, stdout=subprocess.PIPE, stderr=subprocess.PIPE,
                                      pass_fds=handed, process_group=self.group)
         except OSError as fault:
-            raise Failed(f"the program can't be started: {told(fault)}") from None
+            raise Failed(f"the program can't be started: {one_line(fault)}") from None
         self.said = ""
         self.hearing = threading.Thread(target=self.hear, daemon=True)
         self.hearing.start()

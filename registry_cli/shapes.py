@@ -87,7 +87,7 @@ class Reading(Asking, Protocol):
 
 # ---- command lines
 
-class Given(Protocol):
+class Options(Protocol):
     """The words of a command line when they were read: those of `COMMON`, and of others what one subcommand or more
     has."""
     subcommand: str
@@ -131,13 +131,13 @@ class Given(Protocol):
     unfolded: bool
 
 
-class Named(Given, Protocol):
+class Named(Options, Protocol):
     """The words of a subcommand about a package, and a version of it."""
     name: str
     version: str
 
 
-class Served(Given, Protocol):
+class Served(Options, Protocol):
     """The words of `serve`."""
     socket: str | None
     mode: str

@@ -35,10 +35,10 @@ TUNABLES, HUGE_PAGES = "GLIBC_TUNABLES", "glibc.malloc.hugetlb="
 
 def environment() -> dict[str, str]:
     """This environment, in which glibc is asked for huge pages, unless the user has set that."""
-    given = os.environ.get(TUNABLES, "")
-    if f":{HUGE_PAGES}" in f":{given}":
+    tunables = os.environ.get(TUNABLES, "")
+    if f":{HUGE_PAGES}" in f":{tunables}":
         return {**os.environ}
-    return {**os.environ, TUNABLES: f"{HUGE_PAGES}1:{given}" if given else f"{HUGE_PAGES}1"}
+    return {**os.environ, TUNABLES: f"{HUGE_PAGES}1:{tunables}" if tunables else f"{HUGE_PAGES}1"}
 
 
 class Tied(subprocess.Popen):  # type: ignore[type-arg]  # of bytes, or of letters where `how` says text=True

@@ -112,7 +112,7 @@ class Turn:
         if found and found.is_service:
             raise InUse(f"{self.path} is kept by a service ({found}): name that by --connect")
         if not self.waits(self.pause):
-            raise InUse(f"{self.path} is in use by {self.told(found)}: try again once that has ended")
+            raise InUse(f"{self.path} is in use by {self.other_session(found)}: try again once that has ended")
         self.pause = min(2 * self.pause, LONGEST)
         if found or self.file is None:
             self.enter()
@@ -129,14 +129,14 @@ class Turn:
         if time.monotonic() >= self.begun + SILENT and not self.is_told:
             self.is_told = True
             most = f"{self.seconds:,} second{'s' * (self.seconds != 1)}"
-            Output.note(f"{self.path} is in use by {self.told(holder(self.path))}: waiting up to {most}")
+            Output.note(f"{self.path} is in use by {self.other_session(holder(self.path))}: waiting up to {most}")
         seconds = min(seconds, self.left)
         time.sleep(seconds)
         self.left -= seconds
         return True
 
     @staticmethod
-    def told(found: Holder | None) -> str:
+    def other_session(found: Holder | None) -> str:
         return "another session" + (f" ({found})" if found else "")
 
     def leave(self) -> None:

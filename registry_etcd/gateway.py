@@ -264,13 +264,13 @@ def keep_alive(connection: socket.socket) -> None:
             connection.setsockopt(socket.IPPROTO_TCP, getattr(socket, name), value)
 
 
-def refusal(told: bytes) -> Unanswered | Fault:
+def refusal(body: bytes) -> Unanswered | Fault:
     """What a response of another status than 200 means."""
     try:
-        said = json.loads(told)
+        said = json.loads(body)
         text, code = str(said.get("error")), said.get("code")
     except (ValueError, AttributeError):
-        return Unanswered(repr(told[:100]))
+        return Unanswered(repr(body[:100]))
     if FULL in text:
         return Full(f"etcd refuses: {text}: `registryd-etcd compact` makes room")
     return Fault(f"etcd refuses: {text}") if code in FINAL else Unanswered(text)

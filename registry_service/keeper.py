@@ -7,7 +7,7 @@ import json
 from collections.abc import Callable
 from typing import TYPE_CHECKING
 
-from registry_cli.connected import line_of
+from registry_cli.catalog import line_of
 
 from .child import ACCEPTED, Child
 from .disk import Disk

@@ -1,4 +1,5 @@
-"""That what a journal costs is measured of what it says: sessions that keep one, their syncs, and a journal that has all lines."""
+"""That what a journal costs is measured of what it says: sessions that keep one, their syncs, and a journal that has
+all lines."""
 import os
 import tempfile
 import unittest

@@ -1,5 +1,5 @@
-"""That round trips are measured of what is said: each language and way gives the same replies, as many times as trips are asked for,
-and the table has a row for each."""
+"""That round trips are measured of what is said: each language and way gives the same replies, as many times as trips
+are asked for, and the table has a row for each."""
 import json
 import re
 import shutil
@@ -27,15 +27,18 @@ class Embedded(unittest.TestCase):
     def test_the_middle_and_the_slowest(self):
         row = Row("C", "embedded", [])
         for first in (1, 51):
-            row.take("\n".join(f"reply\n{chr(10).join(str(1000 * it) for it in range(first, first + 50))}" for _ in REQUESTS))
-        self.assertEqual([(row.replies[name], row.at(name, 0.5), row.at(name, 0.99)) for name in REQUESTS], [("reply", 51, 100)] * 2)
+            times = "\n".join(str(1000 * micros) for micros in range(first, first + 50))
+            row.take("\n".join([f"reply\n{times}"] * len(REQUESTS)))
+        found = [(row.replies[name], row.at(name, 0.5), row.at(name, 0.99)) for name in REQUESTS]
+        self.assertEqual(found, [("reply", 51, 100)] * 2)
 
     @needs_library
     @skip_without("cc", "gcc")
     def test_each_language_by_each_way(self):
         rows = measured(PROGRAM, FOLDER, TRIPS, ROUNDS, optimized=False)
         languages = ["C", "Python", *(["Rust"] if shutil.which("rustc") else [])]
-        self.assertEqual([(row.language, row.way) for row in rows], [(it, way) for it in languages for way in ("embedded", "child", "socket")])
+        wanted = [(language, way) for language in languages for way in ("embedded", "child", "socket")]
+        self.assertEqual([(row.language, row.way) for row in rows], wanted)
         for row in rows:
             for name, count in zip(REQUESTS, (8, 1)):
                 self.assertEqual(len(row.trips[name]), TRIPS)

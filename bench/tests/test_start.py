@@ -25,7 +25,8 @@ class Measured(unittest.TestCase):
         with tempfile.TemporaryDirectory() as folder:
             journal = os.path.join(folder, "journal")
             lines = publish_lines(20)
-            subprocess.run([PROGRAM, "serve", "--workers", "1", "--save", journal], input="\n".join(lines).encode() + b"\n", stdout=subprocess.DEVNULL, check=True)
+            subprocess.run([PROGRAM, "serve", "--workers", "1", "--save", journal], stdout=subprocess.DEVNULL,
+                           input="\n".join(lines).encode() + b"\n", check=True)
             for kind, (_, words) in start.kinds(PROGRAM, journal, json.loads(lines[0])["name"]).items():
                 if kind in STATUSES:
                     done = subprocess.run(words, stdin=subprocess.DEVNULL, capture_output=True, check=False)

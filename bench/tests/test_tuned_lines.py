@@ -20,7 +20,8 @@ from bench.tuned_lines import (
 )
 from tests.support.program import serve
 
-REFUSED = {"chain": chain_of(3, 5), "pigeons": pigeons(4, 3), "one chain": one_chain(2, 3), "refused": refused(3), "one hub": one_hub(3)}
+REFUSED = {"chain": chain_of(3, 5), "pigeons": pigeons(4, 3), "one chain": one_chain(2, 3), "refused": refused(3),
+           "one hub": one_hub(3)}
 
 
 def replies(lines, requests):
@@ -37,7 +38,8 @@ def can_hold(lines, formula, size, versions):
             (variable, bound), = line["needs"]
             sign, minor = re.fullmatch(r"(>=|<)1\.(\d+)\.0", bound).groups()
             clauses.setdefault(line["name"], []).append((int(variable.partition("-")[2]), sign == "<", int(minor)))
-    return any(all(any((values[variable] < minor) == is_below for variable, is_below, minor in clause) for clause in clauses.values())
+    return any(all(any((values[variable] < minor) == is_below for variable, is_below, minor in clause)
+                   for clause in clauses.values())
                for values in itertools.product(range(versions), repeat=size))
 
 

@@ -1,16 +1,11 @@
 """That the benchmark's workloads are what they say: accepted, answered, and answered the way that they are to be."""
 import itertools
 import json
-import os
 import random
-import tempfile
 import unittest
 
 from bench.hostile import measured, size
 from bench.hostile_lines import HOSTILE, MEGABYTE
-from bench.journals import seconds
-from bench.lines import publish_lines
-from bench.plot import svg
 from bench.race import dealt
 from bench.workers import WORKERS, alone, by_workers
 from bench.workloads import (
@@ -83,13 +78,15 @@ class Workloads(unittest.TestCase):
             if held[-1]:
                 selected = dict(json.loads(reply)["selected"])
                 values = {int(name[-3:]): int(version[2]) for name, version in selected.items() if name.startswith("x")}
-                self.assertTrue(all(any(values.get(variable) == value for variable, value in clause) for clause in formula))
+                self.assertTrue(all(any(values.get(variable) == value for variable, value in clause)
+                                    for clause in formula))
             else:
                 self.assertIn('"refused":true', reply)
         self.assertEqual(set(held), {True, False})
 
     def test_requests_that_share_conflicts(self):
-        for make, count, answer in ((towers, 4, '"refused":true'), (chain, 5, '"refused":true'), (worn, 60, '"selected":[[')):
+        refused = '"refused":true'
+        for make, count, answer in ((towers, 4, refused), (chain, 5, refused), (worn, 60, '"selected":[[')):
             lines, requests = make(count)
             self.assertEqual(len(set(requests)), len(requests))
             for reply in self.replies((lines, requests[:20])):
@@ -104,7 +101,8 @@ class Workloads(unittest.TestCase):
             lines, requests = make(130)
             for reply in self.replies((lines, requests)):
                 found = dict(json.loads(reply)["selected"])
-                self.assertTrue(all(version == "1.0.0" for name, version in found.items() if name.startswith("d")), reply)
+                versions = {version for name, version in found.items() if name.startswith("d")}
+                self.assertEqual(versions, {"1.0.0"}, reply)
         self.assertIn('"refused":true', self.replies((about_one(1)[0], [crossed()]))[0])
 
     def test_what_each_version_says_anew(self):
@@ -117,11 +115,11 @@ class Workloads(unittest.TestCase):
                 self.assertIn('"refused":true', reply)
 
     def test_what_asks_for_much_is_answered_as_it_is_meant(self):
-        follows, refused = '"follows":true', '"refused":true'
-        wanted = {"all bumped": refused, "two bumped": refused, "beyond": refused, "explained": '"derivation":[', "cited need": follows,
-                  "cited needs": follows, "cited premise": follows, "cited versions": follows, "cited beyond": follows, "cited line": follows,
-                  "long needs": refused, "long texts": refused, "long lock": '"selected":[["a","1.0.0"]]', "long publication": '"error":6',
-                  "listing": '"packages":[', "requirements": '"ok":true', "many requirements": '"ok":true', "resting": '"ok":true'}
+        refused = ("all bumped", "two bumped", "beyond", "long needs", "long texts")
+        wanted = {**dict.fromkeys(refused, '"refused":true'), "explained": '"derivation":[', "listing": '"packages":[',
+                  **{name: '"follows":true' for name in HOSTILE if name.startswith("cited")},
+                  "long lock": '"selected":[["a","1.0.0"]]', "long publication": '"error":6',
+                  **dict.fromkeys(("requirements", "many requirements", "resting"), '"ok":true')}
         self.assertEqual(set(wanted), set(HOSTILE))
         for name, make in HOSTILE.items():
             lines, asked = make(70)
@@ -134,13 +132,14 @@ class Workloads(unittest.TestCase):
                 self.assertTrue(0.9 * MEGABYTE < size(asked) < 1_048_576, name)
 
     def test_what_is_learnt_stays_where_it_rests_on_other_versions(self):
-        # That r can't be had rests on what each version of a needs, on what `one` needs, on both needs of r, and on that of the request.
-        # Each step joins two of what stands there, so it takes one step less than there are facts, at the least.
+        # That r can't be had rests on what each version of a needs, on what `one` needs, on both needs of r, and on
+        # that of the request. Each step joins two of what stands there, so it takes one step less than there are facts,
+        # at the least.
         facts_beside = 4
         needs = TEACHING + 1 - facts_beside
         self.assertEqual(HOSTILE["resting"](3), HOSTILE["resting"](3, needs=needs))
-        # What a version needs is looked at when it is decided, and s has two: so the first conflict ends the search only where it is known
-        # that r can't be had, which both need.
+        # What a version needs is looked at when it is decided, and s has two: so the first conflict ends the search
+        # only where it is known that r can't be had, which both need.
         both = [publish("s", (major, 0, 0), [["r0000", "*"]]) for major in (1, 2)]
         again = json.dumps({**json.loads(resolve([["s", "*"]])), "budget": 1})
         for more, told in ((0, '"refused":true'), (1, '"error":22')):
@@ -154,30 +153,11 @@ class Workloads(unittest.TestCase):
         self.assertGreater(min(loading, spent), 0)
         self.assertEqual(answered, len(b'{"follows":true,"revision":10}\n'))
 
-    def test_a_journal_has_the_lines(self):
-        with tempfile.TemporaryDirectory() as folder:
-            given, none, journal = (os.path.join(folder, name) for name in ("lines", "none", "journal"))
-            for path, text in ((given, "".join(line + "\n" for line in publish_lines(300))), (none, "")):
-                with open(path, "w", encoding="ascii") as out:
-                    out.write(text)
-            self.assertGreater(seconds(PROGRAM, given, "--save", journal), 0)
-            with open(journal, "rb") as saved:
-                lines = saved.read().splitlines()
-            self.assertEqual((len(lines), lines[-1]), (302, b"end 300"))
-            # it loads, so the program ends well
-            self.assertGreater(seconds(PROGRAM, none, "--load", journal), 0)
-
     def test_lines_are_dealt_out_once(self):
         lines = [str(number) for number in range(20)]
         files = dealt(lines, 3)
         self.assertEqual(sorted(sum(files, [])), sorted(lines))
         self.assertEqual(files[1], ["1", "4", "7", "10", "13", "16", "19"])
-
-    def test_a_plot_has_each_curve(self):
-        drawn = svg({"one": [(1, 0.5), (10, 5)], "two": [(2, 1), (20, 1)]}, "across", "up")
-        for word in ("one", "two", "across", "up"):
-            self.assertIn(f">{word}<", drawn)
-        self.assertEqual(drawn.count("<polyline"), 2)
 
 
 if __name__ == "__main__":

@@ -90,7 +90,7 @@ static void close_session(struct session *session)
     free(it->channel.waiting);
 }
 
-static const struct way by_child = {feed, take, save, tell, close_session, cut, forsake};
+static const struct way by_child = {feed, take, save, NULL, tell, close_session, cut, forsake};
 
 /* ---- how it begins */
 

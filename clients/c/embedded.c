@@ -31,13 +31,6 @@ uint32_t registryd_slot_close(struct slot *slot);
 
 /* ---- */
 
-/* The archive takes no null, also where there are no bytes. */
-static uint8_t *bytes_at(const void *bytes)
-{
-    static uint8_t none;
-    return bytes ? (uint8_t *)bytes : &none;
-}
-
 /* What a call answers to a session that was ended by a fault, or that goes on. */
 static int answer_to(const struct fault *fault)
 {
@@ -184,7 +177,7 @@ static void cut(struct session *session)
     (void)session;
 }
 
-static const struct way in_process = {feed, take, save, tell, close_session, cut, forsake};
+static const struct way in_process = {feed, take, save, NULL, tell, close_session, cut, forsake};
 
 /* ---- opening */
 

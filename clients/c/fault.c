@@ -60,6 +60,8 @@ static const char *said(enum what what)
     switch (what) {
     case IN_USE: return "in use by another session";
     case NOT_PLAIN: return "not a plain file";
+    case TOO_LONG: return "has more entries than there is room for";
+    case STRAY: return "has an entry that no seat made";
     case CHANGED: return "changed by another program, and not gone on with";
     case NOT_OPENED: return "can't be opened";
     case NOT_CREATED: return "can't be created";

@@ -14,6 +14,10 @@ enum what {
     NOT_PLAIN,
     /* A line is not a journal's. */
     WRONG_LINE,
+    /* It has more entries than there is room for. */
+    TOO_LONG,
+    /* An entry stands there that no seat made. */
+    STRAY,
     /* Its name leads to no file or to another one, or it is not as long as the session left it. */
     CHANGED,
     /* The system refused something. */

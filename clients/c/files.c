@@ -33,10 +33,46 @@ bool make_room(struct bytes *bytes, size_t room)
     return true;
 }
 
+bool make_more(struct bytes *bytes, size_t more)
+{
+    size_t wanted = bytes->length + more;
+    return wanted <= bytes->room || (wanted >= more && make_room(bytes, wanted < bytes->room * 2 ? bytes->room * 2 : wanted));
+}
+
+void append(struct bytes *bytes, const void *more, size_t length)
+{
+    if (length)
+        memcpy(bytes->at + bytes->length, more, length);
+    bytes->length += length;
+}
+
+void drop_first(struct bytes *bytes, size_t length)
+{
+    bytes->length -= length;
+    if (length && bytes->length)
+        memmove(bytes->at, bytes->at + length, bytes->length);
+}
+
+void copy_out(const struct bytes *bytes, size_t *taken, char *to, size_t room, size_t *length, size_t *left)
+{
+    *left = bytes->length - *taken;
+    *length = room < *left ? room : *left;
+    *left -= *length;
+    if (*length)
+        memcpy(to, bytes->at + *taken, *length);
+    *taken += *length;
+}
+
 void free_bytes(struct bytes *bytes)
 {
     free(bytes->at);
     *bytes = (struct bytes){.at = NULL};
+}
+
+uint8_t *bytes_at(const void *bytes)
+{
+    static uint8_t none;
+    return bytes ? (uint8_t *)bytes : &none;
 }
 
 char *copy_of(const char *text, size_t length)

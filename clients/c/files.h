@@ -4,6 +4,7 @@
 
 #include <stdbool.h>
 #include <stddef.h>
+#include <stdint.h>
 #include <sys/stat.h>
 
 /* Bytes in memory of their own; zero at first. */
@@ -14,7 +15,17 @@ struct bytes {
 
 /* Makes room for so many bytes in all; false where there is no memory, and then nothing has changed. */
 bool make_room(struct bytes *bytes, size_t room);
+/* Room for so many bytes more, at least twice as much as before. */
+bool make_more(struct bytes *bytes, size_t more);
+/* Appends what there is room for. */
+void append(struct bytes *bytes, const void *more, size_t length);
+void drop_first(struct bytes *bytes, size_t length);
+/* Copies what is not taken, as far as there is room: tells how much, and how much is left. */
+void copy_out(const struct bytes *bytes, size_t *taken, char *to, size_t room, size_t *length, size_t *left);
 void free_bytes(struct bytes *bytes);
+
+/* Bytes as the archive takes them: never null, also where there are none. */
+uint8_t *bytes_at(const void *bytes);
 
 /* A copy of a text, or of so many bytes of it, or null. */
 char *copy_of(const char *text, size_t length);

@@ -60,20 +60,29 @@ static int has_text(struct rest *rest, char *room, size_t size)
     return has(rest, "\"");
 }
 
-/* Whether a line ends with a word, a number and a brace. */
-static int ends_with(struct rest rest, const char *word, uint32_t *number)
+/* The revision, and behind it the seat, where one answered. */
+static int has_revision(struct rest *rest, uint32_t *revision)
+{
+    uint32_t seat;
+    return has_number(rest, revision) && (!has(rest, ",\"seat\":") || has_number(rest, &seat));
+}
+
+/* Whether a line ends with a word, the revision and a brace. */
+static int ends_with(struct rest rest, const char *word, uint32_t *revision)
 {
     for (const char *at = rest.end; at > rest.at; at--) {
         struct rest tail = {at - 1, rest.end};
         if (has(&tail, word))
-            return has_number(&tail, number) && has(&tail, "}") && tail.at == tail.end;
+            return has_revision(&tail, revision) && has(&tail, "}") && tail.at == tail.end;
     }
     return 0;
 }
 
 static int has_selected(struct rest *rest, uint32_t *revision)
 {
-    return has(rest, "{\"revision\":") && has_number(rest, revision) && has(rest, ",\"selected\":[");
+    uint32_t place;
+    return has(rest, "{") && (!has(rest, "\"place\":") || (has_number(rest, &place) && has(rest, ","))) && has(rest, "\"revision\":") &&
+           has_revision(rest, revision) && has(rest, ",\"selected\":[");
 }
 
 static int has_error(struct rest *rest, struct registryd_reply *reply)
@@ -98,6 +107,27 @@ int registryd_read(const char *line, size_t length, struct registryd_reply *repl
     else if (ends_with(rest, "\"refused\":true,\"revision\":", &read.revision))
         read.kind = REGISTRYD_NOTHING;
     *reply = read;
+    return REGISTRYD_OK;
+}
+
+/* What stands behind the first of these words, of which none is within a text: there its quotes would have a backslash before them. */
+static int has_member(struct rest rest, const char *word, uint32_t *number)
+{
+    for (; rest.at < rest.end; rest.at++)
+        if (has(&rest, word))
+            return has_number(&rest, number);
+    return 0;
+}
+
+int registryd_stamp(const char *line, size_t length, struct registryd_stamp *stamp)
+{
+    struct registryd_stamp read;
+    if (!line || !stamp)
+        return REGISTRYD_MISUSE;
+    struct rest rest = rest_of(line, length);
+    if (!has_member(rest, "\"place\":", &read.place) || !has_member(rest, "\"seat\":", &read.seat))
+        return REGISTRYD_MISUSE;
+    *stamp = read;
     return REGISTRYD_OK;
 }
 

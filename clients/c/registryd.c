@@ -6,7 +6,8 @@
 #include <string.h>
 
 struct place {
-    pthread_mutex_t lock;
+    /* apart from the others, so that threads at different ones don't wait for each other's memory */
+    _Alignas(128) pthread_mutex_t lock;
     /* for who opens a session, cuts what it waits for, or closes it: held besides the lock, or, to cut, without it */
     pthread_mutex_t ending;
     bool is_open;
@@ -92,25 +93,36 @@ static void give_back(size_t number)
     pthread_mutex_unlock(&table.lock);
 }
 
+/* Has a session stand in a place, which is locked; answers its number. */
+static registryd_session begun(struct place *place, size_t number)
+{
+    pthread_mutex_lock(&place->ending);
+    place->is_open = true;
+    registryd_session session = ++place->count * REGISTRYD_SESSIONS + number;
+    pthread_mutex_unlock(&place->ending);
+    return session;
+}
+
+static int as_many_as_may_be(struct telling telling)
+{
+    tell_words(telling, "as many sessions are open as may be at once");
+    return REGISTRYD_MEMORY;
+}
+
 typedef int opening(struct session *it, const struct wanted *wanted, struct telling telling);
 
 /* Opens a session in a free place. */
 static int open_by(opening *open, const struct wanted *wanted, registryd_session *session, struct telling telling)
 {
     size_t number = take_place();
-    if (number == REGISTRYD_SESSIONS) {
-        tell_words(telling, "as many sessions are open as may be at once");
-        return REGISTRYD_MEMORY;
-    }
+    if (number == REGISTRYD_SESSIONS)
+        return as_many_as_may_be(telling);
     struct place *place = &table.places[number];
     pthread_mutex_lock(&place->lock);
     memset(&place->session, 0, sizeof place->session);
     int answer = open(&place->session, wanted, telling);
-    pthread_mutex_lock(&place->ending);
-    place->is_open = answer == REGISTRYD_OK;
-    if (place->is_open)
-        *session = ++place->count * REGISTRYD_SESSIONS + number;
-    pthread_mutex_unlock(&place->ending);
+    if (!answer)
+        *session = begun(place, number);
     pthread_mutex_unlock(&place->lock);
     if (answer)
         give_back(number);
@@ -174,6 +186,49 @@ int registryd_open_embedded_journal(const char *journal, registryd_session *sess
     return open_in_process(&(struct wanted){.journal = journal}, journal ? session : NULL, words, room);
 }
 
+/* Places that no session has, which are taken from now on: as many as there are, up to so many. */
+static size_t take_places(size_t *numbers, size_t count)
+{
+    size_t taken = 0;
+    while (taken < count && (numbers[taken] = take_place()) < REGISTRYD_SESSIONS)
+        taken++;
+    return taken;
+}
+
+/* Has each seat stand in its place. */
+static void begin_seats(const struct seat_slot *slots, const size_t *numbers, registryd_session *seats, size_t count)
+{
+    for (size_t i = 0; i < count; i++) {
+        struct place *place = &table.places[numbers[i]];
+        pthread_mutex_lock(&place->lock);
+        memset(&place->session, 0, sizeof place->session);
+        take_seat(&place->session, &slots[i]);
+        seats[i] = begun(place, numbers[i]);
+        pthread_mutex_unlock(&place->lock);
+    }
+}
+
+int registryd_open_seats(const char *load, size_t entries, registryd_session *seats, size_t count, char *words, size_t room)
+{
+    size_t numbers[REGISTRYD_SEATS];
+    struct seat_slot slots[REGISTRYD_SEATS] = {{.is_open = false}};
+    struct telling telling = {.words = words, .room = room};
+    if (!may_be(words, room))
+        return REGISTRYD_MISUSE;
+    tell_words(telling, "");
+    if (!seats || count < 1 || count > REGISTRYD_SEATS || entries < 1 || entries > REGISTRYD_ENTRIES) {
+        tell_words(telling, "an argument is none that the call takes");
+        return REGISTRYD_MISUSE;
+    }
+    size_t taken = take_places(numbers, count);
+    int answer = taken == count ? open_seats(slots, count, entries, load, telling) : as_many_as_may_be(telling);
+    if (!answer)
+        begin_seats(slots, numbers, seats, count);
+    while (answer && taken)
+        give_back(numbers[--taken]);
+    return answer;
+}
+
 int registryd_connect(const char *where, registryd_session *session)
 {
     if (!where || !session)
@@ -221,6 +276,15 @@ int registryd_save(registryd_session session)
     if (!place)
         return REGISTRYD_MISUSE;
     return leave(place, place->session.way->save(&place->session));
+}
+
+int registryd_journal(registryd_session session, char *room, size_t size, size_t *length)
+{
+    struct place *place = may_be(room, size) && length ? enter(session) : NULL;
+    if (!place)
+        return REGISTRYD_MISUSE;
+    const struct way *way = place->session.way;
+    return leave(place, way->journal ? way->journal(&place->session, room, size, length) : REGISTRYD_MISUSE);
 }
 
 int registryd_error(registryd_session session, char *words, size_t room)

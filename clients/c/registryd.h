@@ -1,17 +1,19 @@
 /* A session of registryd for programs in C, and in what calls C.
  *
- * Request lines go in, reply lines come out, as docs/FORMATS.md has them. A session is answered in one of three ways, which is
+ * Request lines go in, reply lines come out, as docs/FORMATS.md has them. A session is answered in one of four ways, which is
  * chosen when it is opened; all other calls are the same for each:
  *
  *   by a child process   registryd_open, registryd_open_journal, registryd_open_budget: a `registryd serve` of its own, with threads
  *                        that share requests
  *   in process           registryd_open_embedded, registryd_open_embedded_journal: the session is a part of the caller's process,
  *                        which starts nothing and waits for nothing but its journal's file
+ *   by a seat            registryd_open_seats: several sessions in process that share one journal, each for a thread of its own,
+ *                        with replies as a race writes them
  *   by a service         registryd_connect: a `registry serve` that keeps one journal for many clients
  *
  * What is proved: of the program, which replies it gives to the lines that it reads; of the archive `embedded`, which is linked
- * in for sessions in process, the same of the bytes that each call is given, what a journal's file is to get, and that no reply
- * that rests on an accepted command may be taken before its caller says that the command is safe. What is not: this library,
+ * in for sessions in process and for seats, the same of the bytes that each call is given, what a journal's file is to get, and that no
+ * reply that rests on an accepted command may be taken before its caller says that the command is safe. What is not: this library,
  * which is C and only tested, and the service. The library starts the child or connects to the service, numbers and locks
  * sessions, keeps what the archive asks of its callers (no null, no two calls at once for a session), and opens, locks, writes and
  * syncs files.
@@ -54,8 +56,12 @@ enum registryd_answer {
     REGISTRYD_JOURNAL = 5
 };
 
-/* How many sessions may be open at once. */
+/* How many sessions may be open at once, and how many of these may be seats of one journal. */
 #define REGISTRYD_SESSIONS 64
+#define REGISTRYD_SEATS 64
+
+/* How many entries a journal with seats may have: accepted commands, and what searches taught. */
+#define REGISTRYD_ENTRIES 65536
 
 /* Room for the words that tell what is the matter, unless a file's name is very long. */
 #define REGISTRYD_WORDS 1024
@@ -88,6 +94,21 @@ int registryd_open_embedded(const char *load, const char *save, registryd_sessio
  * search taught is written before the reply to a later line can be taken, or at the end. A session of the program and one in process
  * exclude each other from a file, as two of either do. */
 int registryd_open_embedded_journal(const char *journal, registryd_session *session, char *words, size_t room);
+
+/* Opens `count` seats of one journal in process, 1 to REGISTRYD_SEATS, each a session for one thread, and writes their numbers to `seats`.
+ * The journal has room for so many entries, 1 to REGISTRYD_ENTRIES. It begins with that of a file, or with none where `load` is null. No
+ * file gets it: registryd_journal hands it out. `words` is as in registryd_open_embedded.
+ *
+ * Calls for different seats wait for nothing of each other. Each line but one that is wrong in every state is answered once its seat has
+ * read all entries of the others up to the first place that it finds empty: so what a call accepted is there for each call that begins
+ * once that one has returned. A command is entered once, at the place and the revision that its reply tells. Seats are closed one by one,
+ * in any order; the journal is gone with the last. */
+int registryd_open_seats(const char *load, size_t entries, registryd_session *seats, size_t count, char *words, size_t room);
+
+/* Copies the journal that a seat has seen to `room`, once it has looked for what others entered, and tells how long it is. It is a text
+ * as a file has it. REGISTRYD_MEMORY says that there is no room, or no memory, and then `length` is 0; REGISTRYD_MISUSE also that the session
+ * is no seat; REGISTRYD_JOURNAL that an entry stands there that no seat made. */
+int registryd_journal(registryd_session seat, char *room, size_t size, size_t *length);
 
 /* Connects to a service, `registry serve`. The address is the path of its socket, or HOST:PORT: a text without a slash that ends in
  * a colon and digits. The service has a journal of its own, which it keeps beyond the session. REGISTRYD_START says that it can't
@@ -161,6 +182,11 @@ struct registryd_reply {
     char name[32];
 };
 
+/* Where a seat stood when it answered: how many entries it had read, an accepted command's own as the last; and its number, from 1. */
+struct registryd_stamp {
+    uint32_t place, seat;
+};
+
 struct registryd_pair {
     char name[65];
     char version[257];
@@ -168,6 +194,9 @@ struct registryd_pair {
 
 /* Reads one reply line of this library's sessions, with or without its line feed. REGISTRYD_MISUSE says that it is none. */
 int registryd_read(const char *line, size_t length, struct registryd_reply *reply);
+
+/* Reads where a seat stood, of its reply line. REGISTRYD_MISUSE says that no seat answered. */
+int registryd_stamp(const char *line, size_t length, struct registryd_stamp *stamp);
 
 /* Reads a selected package, counted from 0, of the reply line of a selection. REGISTRYD_ENDED says that it has no more, and
  * REGISTRYD_MISUSE that it is no such line. */

@@ -25,32 +25,7 @@
 /* The program that keeps the journal refuses this one, once all commands that came before are in the journal. */
 #define FENCE "{}\n"
 
-/* So much of a line is kept: one that is longer is refused whatever it says. */
-#define MOST_LINE (1048576 + 1)
-
 /* ---- the lines that have no reply */
-
-/* Room for so many bytes more, at least twice as much as before. */
-static bool make_more(struct bytes *bytes, size_t more)
-{
-    size_t wanted = bytes->length + more;
-    return wanted <= bytes->room || (wanted >= more && make_room(bytes, wanted < bytes->room * 2 ? bytes->room * 2 : wanted));
-}
-
-/* Appends what there is room for. */
-static void append(struct bytes *bytes, const void *more, size_t length)
-{
-    if (length)
-        memcpy(bytes->at + bytes->length, more, length);
-    bytes->length += length;
-}
-
-static void drop_first(struct bytes *bytes, size_t length)
-{
-    bytes->length -= length;
-    if (length && bytes->length)
-        memmove(bytes->at, bytes->at + length, bytes->length);
-}
 
 /* The revisions by which lines were carried out, 0 for each that is to be asked. */
 static uint64_t *known_of(struct asked *it)
@@ -312,12 +287,7 @@ static int take(struct session *session, char *bytes, size_t room, size_t *lengt
     int answer = go_on(it, true);
     if (answer == REGISTRYD_MEMORY)
         return answer;
-    *left = it->told.length - it->taken;
-    *length = room < *left ? room : *left;
-    *left -= *length;
-    if (*length)
-        memcpy(bytes, it->told.at + it->taken, *length);
-    it->taken += *length;
+    copy_out(&it->told, &it->taken, bytes, room, length, left);
     return answer;
 }
 
@@ -367,7 +337,7 @@ static void close_session(struct session *session)
     free(it->where);
 }
 
-static const struct way by_service = {feed, take, save, tell, close_session, cut, forsake};
+static const struct way by_service = {feed, take, save, NULL, tell, close_session, cut, forsake};
 
 int open_service(struct session *session, const struct wanted *wanted, struct telling telling)
 {

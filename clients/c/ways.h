@@ -1,4 +1,4 @@
-/* The ways in which a session is answered. What each does stands in child.c, in embedded.c and in service.c; registryd.c calls them,
+/* The ways in which a session is answered. What each does stands in child.c, in embedded.c, in seat.c and in service.c; registryd.c calls them,
  * one call at a time for a session, with arguments that are none of a careless caller. */
 #ifndef REGISTRYD_WAYS_H
 #define REGISTRYD_WAYS_H
@@ -13,6 +13,9 @@
 #include <stdatomic.h>
 #include <stdbool.h>
 #include <sys/types.h>
+
+/* So much of a line is kept: one that is longer is refused whatever it says. */
+#define MOST_LINE (1048576 + 1)
 
 /* A program that this process has started. */
 struct child {
@@ -80,11 +83,30 @@ struct embedded {
     struct bytes bytes;
 };
 
+/* What the archive keeps of a seat in its caller's memory: zero at first, never touched, and moved as a whole or not at all. */
+struct seat_slot {
+    struct { void *at; } held;
+    bool is_open;
+};
+
+/* A seat of a journal that several share in this process. */
+struct seat {
+    struct seat_slot slot;
+    /* lines without an answer: whole ones up to `whole`, and then what is begun of one more */
+    struct bytes lines;
+    size_t whole;
+    /* the replies: those from `taken` on are not taken. The last one may be owed, where there was no room for it. */
+    struct bytes told;
+    size_t taken;
+    bool owes, is_ended;
+};
+
 struct session {
     const struct way *way;
     union {
         struct child child;
         struct embedded embedded;
+        struct seat seat;
         struct service service;
     };
 };
@@ -94,6 +116,8 @@ struct way {
     int (*feed)(struct session *it, const char *bytes, size_t length);
     int (*take)(struct session *it, char *bytes, size_t room, size_t *length, size_t *left);
     int (*save)(struct session *it);
+    /* Copies the journal that a seat has seen; null where there are no seats. */
+    int (*journal)(struct session *it, char *room, size_t size, size_t *length);
     void (*tell)(const struct session *it, struct telling telling);
     void (*close)(struct session *it);
     /* Breaks off what another call for the session may be waiting for meanwhile, where that can be done. */
@@ -117,5 +141,10 @@ struct wanted {
 int open_child(struct session *it, const struct wanted *wanted, struct telling telling);
 int open_embedded(struct session *it, const struct wanted *wanted, struct telling telling);
 int open_service(struct session *it, const struct wanted *wanted, struct telling telling);
+
+/* Opens the seats of a journal with room for so many entries. It begins with the journal of a file, or with none where `load` is null. */
+int open_seats(struct seat_slot *seats, size_t count, size_t entries, const char *load, struct telling telling);
+/* Has a session be one of these seats, in a place that is all zero. */
+void take_seat(struct session *it, const struct seat_slot *slot);
 
 #endif

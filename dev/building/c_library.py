@@ -1,7 +1,10 @@
-"""The library for C, `libregistryd.a` and `libregistryd.so`: built over the archive `embedded` by the Makefile of clients/c.
+"""The library for C, `libregistryd.a` and `libregistryd.so`: built over the archive `embedded` by the Makefile of
+clients/c.
 
-It stands in `out/library`, with a note of what it was made from: one whose sources or archive are others now is built anew, which takes
-seconds."""
+It stands in `out/library`, with a note of what it was made from: one whose sources or archive are others now is built
+anew, which takes seconds."""
+from __future__ import annotations
+
 import dataclasses
 import fcntl
 import hashlib
@@ -9,10 +12,11 @@ import json
 import os
 import shutil
 import subprocess
+from collections.abc import Iterable
 from pathlib import Path
 
 from dev.building import kit_commands, programs
-from dev.building.programs import TOP
+from dev.building.progress import TOP
 
 SOURCES, FOLDER = TOP / "clients" / "c", TOP / "out" / "library"
 ARCHIVE = "embedded"
@@ -26,7 +30,7 @@ class Unbuilt(Exception):
     """It can't be built here; one line says why."""
 
 
-def heap():
+def heap() -> Path:
     """The kit's functions by which an archive asks for memory."""
     return kit_commands.folder() / "c" / "liblibc_c.a"
 
@@ -38,19 +42,21 @@ class Library:
     kind: str
 
 
-def archive():
-    """The archive that the library is built over, and its kind: the one that the environment names (`EMBEDDED`), else the one that
-    stands. An empty name is that of none."""
+def archive() -> tuple[Path, str]:
+    """The archive that the library is built over, and its kind: the one that the environment names (`EMBEDDED`), else
+    the one that stands. An empty name is that of none."""
     named = os.environ.get(ARCHIVE.upper())
     if named == "":
         raise Unbuilt("./test --quick leaves the library for C to ./test")
-    program = None if named else programs.current(ARCHIVE)
-    if named or program:
-        return (Path(named), programs.COMPILED) if named else (program.path, program.kind)
-    raise Unbuilt(f"no archive {ARCHIVE} stands of just these sources: run tools/build_library first")
+    if named:
+        return Path(named), programs.COMPILED
+    program = programs.current(ARCHIVE)
+    if not program:
+        raise Unbuilt(f"no archive {ARCHIVE} stands of just these sources: run tools/build_library first")
+    return program.path, program.kind
 
 
-def sum_of(files):
+def sum_of(files: Iterable[Path]) -> str:
     whole = hashlib.sha256()
     for file in files:
         data = file.read_bytes()
@@ -58,32 +64,37 @@ def sum_of(files):
     return whole.hexdigest()
 
 
-def make(to, over, *words):
+def make(to: str | Path, over: str | Path, *words: str) -> None:
     """Builds it in a folder, over an archive; more words are passed to `make`."""
     for command in COMMANDS:
         if not shutil.which(command):
             raise Unbuilt(f"there is no {command} (Debian: gcc libc6-dev make)")
-    done = subprocess.run(["make", "-s", "-f", SOURCES / "Makefile", f"EMBEDDED={over}", f"HEAP={heap()}", f"OUT={to}", *words],
-                          stdin=subprocess.DEVNULL, stdout=subprocess.PIPE, stderr=subprocess.STDOUT, text=True, errors="replace", check=False)
+    places = f"EMBEDDED={over}", f"HEAP={heap()}", f"OUT={to}"
+    done = subprocess.run(["make", "-s", "-f", SOURCES / "Makefile", *places, *words], stdin=subprocess.DEVNULL,
+                          stdout=subprocess.PIPE, stderr=subprocess.STDOUT, text=True, errors="replace", check=False)
     if done.returncode:
         raise Unbuilt(f"make fails in clients/c: {done.stdout.strip()}")
 
 
-def is_current(of):
+def note(of: str) -> dict[str, str]:
+    """What is noted of the library: from files of which sum it was made, and its own sum."""
+    return {"from": of, "files": sum_of(FOLDER / file for file in FILES)}
+
+
+def is_current(of: str) -> bool:
     """Whether what stands was made from files of this sum, and is as it was made."""
     try:
-        told = json.loads((FOLDER / "made.json").read_bytes())
-        return told == {"from": of, "files": sum_of(FOLDER / it for it in FILES)}
+        return bool(json.loads((FOLDER / "made.json").read_bytes()) == note(of))
     except (OSError, ValueError):
         return False
 
 
-def made_from(over):
+def made_from(over: Path) -> str:
     """A sum of what it is made from."""
     return sum_of([*sorted(SOURCES.glob("*.[ch]")), SOURCES / "Makefile", SOURCES / "exports.txt", over, heap()])
 
 
-def standing():
+def standing() -> Library | None:
     """The library that stands of just these files, if one does. Nothing is built."""
     try:
         over, kind = archive()
@@ -92,7 +103,7 @@ def standing():
         return None
 
 
-def built():
+def built() -> Library:
     """The library of just these files, which is built where it does not stand."""
     over, kind = archive()
     of = made_from(over)
@@ -101,12 +112,11 @@ def built():
         fcntl.flock(lock, fcntl.LOCK_EX)
         if not is_current(of):
             make(FOLDER, over, "-B")
-            told = {"from": of, "files": sum_of(FOLDER / it for it in FILES)}
-            (FOLDER / "made.json").write_text(json.dumps(told, indent=1) + "\n", encoding="ascii")
+            (FOLDER / "made.json").write_text(json.dumps(note(of), indent=1) + "\n", encoding="ascii")
     return Library(FOLDER, kind)
 
 
-def pkg_config(version, kind):
+def pkg_config(version: str, kind: str) -> str:
     """The file that tells `pkg-config` of an installed library."""
     text = (SOURCES / "registryd.pc.in").read_text(encoding="ascii")
     return text.replace("@VERSION@", version).replace("@PROVED@", "yes" if kind == programs.PROVED else "no")

@@ -1,21 +1,24 @@
 """Finds the program among what the kit's gate has proved on this machine, where it was made of the same files."""
+from __future__ import annotations
+
 import hashlib
 import json
 import os
 import shutil
 from pathlib import Path
+from typing import Any
 
 from dev.building import kit_commands
 
 
-def kept(rt, top):
+def kept(rt: Any, top: Any) -> tuple[str, str] | None:
     """Where the gate keeps the program, with the sum of its bytes; nothing where it has not proved just these files.
 
-    The gate keeps what it proves by a sum of all that the proof read, the libraries below as they were built among it. So
-    libraries are looked up first, lowest first: each has a list of its own files and their sums."""
+    The gate keeps what it proves by a sum of all that the proof read, the libraries below as they were built among it.
+    So libraries are looked up first, lowest first: each has a list of its own files and their sums."""
     rt.Crate.allowed = rt.handles_of(os.path.dirname(os.path.dirname(top.folder)))
     store = rt.Kept([*top.below(), top])
-    made = []
+    made: list[tuple[str, str]] = []
     try:
         for crate in [*top.below(), top]:
             key = store.key(crate)
@@ -30,13 +33,12 @@ def kept(rt, top):
     return None
 
 
-def take(rt, top, to):
+def take(rt: Any, top: Any, to: str) -> bool:
     """Copies the program that the gate keeps, if it keeps one of these files; answers whether it did."""
     try:
         found = kept(rt, top)
     except (AttributeError, TypeError):
-        # another kit keeps it in another way, or nothing
-        return False
+        return False  # another kit keeps it in another way, or nothing
     if not found:
         return False
     file, of = found
@@ -50,7 +52,7 @@ def take(rt, top, to):
     return True
 
 
-def taken(top, name, folder):
+def taken(top: Path, name: str, folder: str | Path) -> Path | None:
     """The program's file, copied into a folder, if this kit keeps one of just these files."""
     to = os.path.join(folder, name)
     try:

@@ -1,9 +1,12 @@
 """Which program stands: the one that was proved of just these sources, else the one that was compiled from them.
 
-`out/proved/NAME` was built from proofs, by `./test` or `tools/build --proved`; `out/compiled/NAME` was compiled, and nothing was
-proved of it. `out/unchecked/NAME` was compiled without its checks, for measurements: it is never the one that is to be run. Beside each
-stands `NAME.json` with what it was made from, as sums: one whose sources, kit or own bytes are others now is not taken. A static
-library, `libNAME.a`, stands in the same way. Run by itself, this prints what `./registryd --version` tells."""
+`out/proved/NAME` was built from proofs, by `./test` or `tools/build --proved`; `out/compiled/NAME` was compiled, and
+nothing was proved of it. `out/unchecked/NAME` was compiled without its checks, for measurements: it is never the one
+that is to be run. Beside each stands `NAME.json` with what it was made from, as sums: one whose sources, kit or own
+bytes are others now is not taken. A static library, `libNAME.a`, stands in the same way. Run by itself, this prints
+what `./registryd --version` tells."""
+from __future__ import annotations
+
 import contextlib
 import dataclasses
 import functools
@@ -13,11 +16,11 @@ import os
 import re
 import shutil
 import subprocess
+from collections.abc import Iterator
 from pathlib import Path
 
-from dev.building.progress import crates_below
+from dev.building.progress import TOP, crates_below
 
-TOP = Path(__file__).resolve().parents[2]
 NAME = "registryd"
 PROVED, COMPILED, UNCHECKED = "proved", "compiled", "unchecked"
 # What programs are made from, and what says their version.
@@ -26,9 +29,10 @@ SOURCES = ("crates", "crates.txt", "HANDLES", "VERSION")
 SECONDS = 110
 # How far the time of a file may lie behind the clock, in nanoseconds.
 LAG = 20_000_000
-TOLD = {
+STATES = {
     PROVED: "The program is proved: just these sources were proved before it was built.",
-    COMPILED: "The program is compiled from these sources, with checks as it runs. It is not proved on this machine: ./test does that.",
+    COMPILED: "The program is compiled from these sources, with checks as it runs. It is not proved on this machine: "
+              "./test does that.",
 }
 
 
@@ -40,53 +44,55 @@ class Program:
     sum: str
 
 
-def names():
+def names() -> list[str]:
     """The programs of the repository."""
     return sorted(crate for crate in crates_below() if (TOP / "crates" / crate / "src" / "main.rt").is_file())
 
 
-def libraries():
+def libraries() -> list[str]:
     """The static libraries of the repository."""
     return re.findall(r"^(\w+) staticlib\b", (TOP / "crates.txt").read_text(encoding="utf-8"), re.M)
 
 
-def file_name(name):
+def file_name(name: str) -> str:
     """The name of what is built of a program's crate or of a library's."""
     return f"lib{name}.a" if name in libraries() else name
 
 
-def version():
+def version() -> str:
     return (TOP / "VERSION").read_text(encoding="ascii").strip()
 
 
-def commit():
+def commit() -> str:
     """The commit of the checkout in short, with `+changes` where its sources differ from it; `unknown` without git."""
     given = {name: text for name, text in os.environ.items() if not name.startswith("GIT_")}
 
-    def git(*words):
-        return subprocess.run(["git", "--no-optional-locks", "-C", TOP, *words], env=given, stdin=subprocess.DEVNULL,
-                              stdout=subprocess.PIPE, stderr=subprocess.DEVNULL, text=True, check=True).stdout.strip()
+    def git(*words: str) -> str:
+        command = ["git", "--no-optional-locks", "-C", str(TOP), *words]
+        return subprocess.run(command, env=given, stdin=subprocess.DEVNULL, stdout=subprocess.PIPE,
+                              stderr=subprocess.DEVNULL, text=True, check=True).stdout.strip()
 
     try:
         # an unpacked archive may lie inside the repository of something else
         if Path(git("rev-parse", "--show-toplevel")).resolve() != TOP:
             return "unknown"
-        return git("rev-parse", "--short", "HEAD") + ("+changes" if git("status", "--porcelain", "--", *SOURCES) else "")
+        changes = "+changes" if git("status", "--porcelain", "--", *SOURCES) else ""
+        return git("rev-parse", "--short", "HEAD") + changes
     except (OSError, subprocess.CalledProcessError):
         return "unknown"
 
 
 @functools.lru_cache
-def kit_version():
+def kit_version() -> str:
     """The version of the kit, or nothing where there is none."""
     try:
-        return subprocess.run(["rt", "version"], stdin=subprocess.DEVNULL, stdout=subprocess.PIPE, stderr=subprocess.DEVNULL,
-                              text=True, check=True).stdout.strip()
+        return subprocess.run(["rt", "version"], stdin=subprocess.DEVNULL, stdout=subprocess.PIPE,
+                              stderr=subprocess.DEVNULL, text=True, check=True).stdout.strip()
     except (OSError, subprocess.CalledProcessError):
         return ""
 
 
-def files_of(name, with_proofs):
+def files_of(name: str, with_proofs: bool) -> Iterator[Path]:
     """What a program is made from, in order: the files of its crates, and those that say which crates there are."""
     yield TOP / "crates.txt"
     if with_proofs:
@@ -98,8 +104,9 @@ def files_of(name, with_proofs):
                 yield from (Path(at, file) for file in sorted(files))
 
 
-def sources_sum(name, with_proofs, by=None):
-    """A sum of what a program is made from, and of the version of the kit that makes it: this one, or the one that is named."""
+def sources_sum(name: str, with_proofs: bool, by: str | None = None) -> str:
+    """A sum of what a program is made from, and of the version of the kit that makes it: this one, or the one that is
+    named."""
     whole = hashlib.sha256((kit_version() if by is None else by).encode())
     for file in files_of(name, with_proofs):
         data = file.read_bytes() if file.is_file() else b""
@@ -107,23 +114,24 @@ def sources_sum(name, with_proofs, by=None):
     return whole.hexdigest()
 
 
-def sum_of(file):
+def sum_of(file: Path) -> str:
     return hashlib.sha256(file.read_bytes()).hexdigest()
 
 
-def place(name, kind):
+def place(name: str, kind: str) -> tuple[Path, Path]:
     """Where a program of this kind stands, and what tells of it."""
     path = TOP / "out" / kind / file_name(name)
     return path, path.with_name(f"{name}.json")
 
 
-def stand(name, kind, built, of, by):
-    """Puts a program that was built in its place, in one step; `of` is the sum of its sources, `by` the version of the kit."""
+def stand(name: str, kind: str, built: Path, of: str, by: str) -> Program:
+    """Puts a program that was built in its place, in one step; `of` is the sum of its sources, `by` the version of the
+    kit."""
     path, beside = place(name, kind)
     path.parent.mkdir(parents=True, exist_ok=True)
-    told = json.dumps({"kind": kind, "sources": of, "kit": by, "program": sum_of(built)}, indent=1) + "\n"
+    note = json.dumps({"kind": kind, "sources": of, "kit": by, "program": sum_of(built)}, indent=1) + "\n"
     # in between, what stands beside it tells of other bytes: then neither is taken
-    for data, to, mode in ((built.read_bytes(), path, 0o755), (told.encode(), beside, 0o644)):
+    for data, to, mode in ((built.read_bytes(), path, 0o755), (note.encode(), beside, 0o644)):
         new = to.with_name(f"{to.name}.new.{os.getpid()}")
         new.write_bytes(data)
         new.chmod(mode)
@@ -131,51 +139,53 @@ def stand(name, kind, built, of, by):
     return Program(path, kind, of)
 
 
-def standing(name, kind):
-    """The program of a kind that stands, and whether it was made from just these sources; none where its own bytes were changed."""
+def standing(name: str, kind: str) -> tuple[Program | None, bool]:
+    """The program of a kind that stands, and whether it was made from just these sources; none where its own bytes were
+    changed."""
     path, beside = place(name, kind)
     try:
-        told = json.loads(beside.read_bytes())
-        program = Program(path, told["kind"], told["sources"])
-        if sum_of(path) != told["program"] or not os.access(path, os.X_OK) or program.kind != kind:
+        note = json.loads(beside.read_bytes())
+        program = Program(path, note["kind"], note["sources"])
+        if sum_of(path) != note["program"] or not os.access(path, os.X_OK) or program.kind != kind:
             return None, False
         # without a kit there is no other that could make it anew
-        return program, program.sum == sources_sum(name, kind == PROVED, kit_version() or told["kit"])
+        return program, program.sum == sources_sum(name, kind == PROVED, kit_version() or note["kit"])
     except (OSError, ValueError, KeyError, TypeError):
         return None, False
 
 
-def made(name, kind):
+def made(name: str, kind: str) -> Program | None:
     """The program of a kind that was made from just these sources, if it stands."""
     program, is_current = standing(name, kind)
     return program if is_current else None
 
 
-def current(name):
-    """The program that is to be run: the proved one of just these sources, else the one that was compiled with checks, else none."""
+def current(name: str) -> Program | None:
+    """The program that is to be run: the proved one of just these sources, else the one that was compiled with checks,
+    else none."""
     return made(name, PROVED) or made(name, COMPILED)
 
 
-def is_older(name):
+def is_older(name: str) -> bool:
     """Whether a program stands, and none of just these sources."""
     return not current(name) and any(standing(name, kind)[0] for kind in (PROVED, COMPILED))
 
 
-def gate_built(name):
-    """Where the gate builds a program, and the proof of one program too; the next gate takes it away."""
+def gate_built(name: str) -> Path:
+    """Where the gate builds a program; the next gate takes it away."""
     return TOP / "crates" / name / "out" / file_name(name)
 
 
-def path_for_tests(name):
-    """The path of the program that tests and measurements run: the one that the environment names (`REGISTRYD`, `PROBE`), as `./test`
-    has it, else the one that is to be run; where none stands, the path at which one will."""
+def path_for_tests(name: str) -> str:
+    """The path of the program that tests and measurements run: the one that the environment names (`REGISTRYD`,
+    `PROBE`), as `./test` has it, else the one that is to be run; where none stands, the path at which one will."""
     program = None if os.environ.get(name.upper()) else current(name)
     return os.environ.get(name.upper()) or str(program.path if program else place(name, COMPILED)[0])
 
 
-def remember(name):
-    """The program that is to be run, which is noted for `./registryd`: that looks only whether a file has changed since. So the note is
-    as old as the moment before the first file is read here."""
+def remember(name: str) -> Program | None:
+    """The program that is to be run, which is noted for `./registryd`: that looks only whether a file has changed
+    since. So the note is as old as the moment before the first file is read here."""
     note = TOP / "out" / f"{name}.current"
     new, before = note.with_name(f"{note.name}.{os.getpid()}"), None
     with contextlib.suppress(OSError):
@@ -193,17 +203,18 @@ def remember(name):
     return program
 
 
-def told(name):
+def in_words(name: str) -> str:
     """What `--version` says: the version, the commit, and what the program is that would be run."""
     program = current(name)
     if program:
-        state = TOLD[program.kind]
+        state = STATES[program.kind]
     elif is_older(name):
-        state = "The sources have changed since the program was built: its next use compiles it anew, which takes minutes."
+        state = ("The sources have changed since the program was built: its next use compiles it anew, "
+                 "which takes minutes.")
     else:
         state = "The program is not built yet: its first use compiles it, which takes minutes."
     return f"{name} {version()}, commit {commit()}\n{state}"
 
 
 if __name__ == "__main__":
-    print(told(NAME))
+    print(in_words(NAME))

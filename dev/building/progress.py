@@ -1,38 +1,43 @@
 """Says how far a long proof is: at which crate of how many, how long it has taken, and about how long is left."""
+from __future__ import annotations
+
 import os
 import re
 import sys
 import threading
 import time
+from collections.abc import Sequence
+from pathlib import Path
+from typing import TextIO
 
 from dev.measured import read
 
-TOP = os.path.dirname(os.path.dirname(os.path.dirname(os.path.abspath(__file__))))
+TOP = Path(__file__).resolve().parents[2]
 # The file of what the proof of each crate takes.
 SECONDS = ("dev", "building", "proof_seconds.txt")
 # What a crate that it doesn't name takes, for each byte of its text.
 SECONDS_A_BYTE = 0.001
 # How much sooner all crates are proved on several processors than on one: crates wait for those below them.
 GAIN = {1: 1.0, 2: 1.7, 3: 2.2, 4: 2.6}
-# How much sooner one crate is with several jobs, which wait for one another, and which part of it is taken to be proved at most.
-GAIN_OF_JOBS = {1: 1.0, 2: 1.4, 3: 1.7, 4: 1.9}
-MOST_GUESSED = 0.9
+# What a check takes at most, in kB: 3 GB, and a third more for what runs beside it.
+MEMORY_OF_A_CHECK = 4_000_000
 # A line is rewritten this often.
 TICK = 1.0
 
 
-def stands_on():
+def stands_on() -> dict[str, list[str]]:
     """What crates.txt says each crate stands on."""
-    with open(os.path.join(TOP, "crates.txt"), encoding="utf-8") as lines:
-        said = [line.split("#")[0].partition(":") for line in lines]
-    return {head.split()[0]: below.split() for head, colon, below in said if colon}
+    rows = [line.split("#")[0].partition(":") for line in Path(TOP, "crates.txt").read_text("utf-8").splitlines()]
+    return {head.split()[0]: below.split() for head, colon, below in rows if colon}
 
 
-def crates_below(name=None):
-    """The crates of crates.txt, each after those that it stands on; those of one crate and below it, if that is named."""
-    needs, found = stands_on(), []
+def crates_below(name: str | None = None) -> list[str]:
+    """The crates of crates.txt, each after those that it stands on; those of one crate and below it, if that is
+    named."""
+    needs = stands_on()
+    found: list[str] = []
 
-    def take(crate):
+    def take(crate: str) -> None:
         for below in needs[crate]:
             if below in needs:
                 take(below)
@@ -44,19 +49,16 @@ def crates_below(name=None):
     return found
 
 
-def seconds_of(crate):
+def seconds_of(crate: str) -> float:
     """What the proof of a crate takes at one job on an idle machine: as measured, else by its size."""
-    measured = read(os.path.join(TOP, *SECONDS))
+    measured = read(Path(TOP, *SECONDS))
     if crate in measured:
         return measured[crate]
-    size = 0
-    for part in ("src", "specs", "proofs"):
-        for at, _, files in os.walk(os.path.join(TOP, "crates", crate, part)):
-            size += sum(os.path.getsize(os.path.join(at, file)) for file in files)
-    return SECONDS_A_BYTE * size
+    files = [file for part in ("src", "specs", "proofs") for file in Path(TOP, "crates", crate, part).rglob("*")]
+    return SECONDS_A_BYTE * sum(file.stat().st_size for file in files if file.is_file())
 
 
-def told(seconds):
+def in_words(seconds: float) -> str:
     """A time as a person says it."""
     if seconds < 90:
         return f"{max(5, 5 * round(seconds / 5)):.0f} s"
@@ -66,107 +68,93 @@ def told(seconds):
 class Line:
     """One line on standard error that says how far something is, rewritten where that is a terminal."""
 
-    def __init__(self, out=None):
+    def __init__(self, out: TextIO | None = None) -> None:
         self.out, self.begun = out or sys.stderr, time.monotonic()
         self.rewrites, self.lock, self.is_over = self.out.isatty(), threading.RLock(), threading.Event()
         if self.rewrites:
             threading.Thread(target=self.tick, daemon=True).start()
 
-    def tick(self):
+    def text(self) -> str:
+        raise NotImplementedError
+
+    def tick(self) -> None:
         while not self.is_over.wait(TICK):
             self.rewrite()
 
-    def rewrite(self):
+    def rewrite(self) -> None:
         with self.lock:
-            if self.is_over.is_set():
-                return
-            print(f"\r\x1b[K{self.text()}", end="", file=self.out, flush=True)
+            if not self.is_over.is_set():
+                print(f"\r\x1b[K{self.text()}", end="", file=self.out, flush=True)
 
-    def clear(self):
+    def clear(self) -> None:
         """Takes the line away, so that something else can be written there."""
         if self.rewrites:
             with self.lock:
                 print("\r\x1b[K", end="", file=self.out, flush=True)
 
-    def end(self):
+    def end(self) -> None:
         with self.lock:
             self.is_over.set()
             self.clear()
 
-    def __enter__(self):
+    def __enter__(self) -> Line:
         return self
 
-    def __exit__(self, *_):
+    def __exit__(self, *_: object) -> None:
         self.end()
 
 
 class Counter(Line):
-    """How long something has taken, beside what it takes on an idle machine; where that is no terminal, nothing is said."""
+    """How long something has taken, beside what it takes on an idle machine; where that is no terminal, nothing is
+    said."""
 
-    def __init__(self, doing, seconds, out=None):
+    def __init__(self, doing: str, seconds: float, out: TextIO | None = None) -> None:
         self.doing, self.seconds = doing, seconds
         super().__init__(out)
 
-    def text(self):
-        return f"{self.doing}, {told(time.monotonic() - self.begun)} so far, about {told(self.seconds)} on an idle machine"
+    def text(self) -> str:
+        so_far = f"{in_words(time.monotonic() - self.begun)} so far"
+        return f"{self.doing}, {so_far}, about {in_words(self.seconds)} on an idle machine"
 
 
 class Progress(Line):
     """How far a proof is: where standard error is no terminal, the line is written anew with each crate."""
 
-    def __init__(self, name, crates, jobs, out=None):
+    def __init__(self, name: str, crates: Sequence[str], jobs: int, out: TextIO | None = None) -> None:
         self.name, self.crates = name, crates
         self.weights = {crate: seconds_of(crate) for crate in crates}
         self.rate = GAIN.get(jobs, GAIN[4])
-        # those that are proved, those that are being proved, each with a call for which part of it is, and the time of what was kept
-        self.done, self.parts, self.skipped = set(), {}, 0.0
+        self.done: set[str] = set()
+        self.skipped = 0.0  # the time of what was kept
         super().__init__(out)
 
-    def finish(self, crate, is_kept=False):
+    def finish(self, crate: str, is_kept: bool = False) -> None:
         """Notes that a crate is proved; one that was kept from earlier took no time."""
         with self.lock:
             if crate not in self.weights or crate in self.done:
                 return
             self.done.add(crate)
-            self.parts.pop(crate, None)
-            if is_kept:
-                self.skipped += self.weights[crate]
+            self.skipped += self.weights[crate] * is_kept
         self.say()
 
-    def note(self, crate, part=0.0):
-        """Notes that a crate is being proved, and which part of it is."""
-        with self.lock:
-            if crate in self.weights and crate not in self.done:
-                self.parts[crate] = lambda: part
-
-    def begin(self, crate, jobs):
-        """Notes that the proof of a crate begins, of which nothing is told before its end: which part of it is proved is guessed."""
-        at, rate = time.monotonic(), GAIN_OF_JOBS.get(jobs, GAIN_OF_JOBS[4]) / max(1.0, self.weights.get(crate, 1.0))
-        with self.lock:
-            if crate in self.weights and crate not in self.done:
-                self.parts[crate] = lambda: min(MOST_GUESSED, (time.monotonic() - at) * rate)
-
-    def left(self, elapsed):
+    def left(self, elapsed: float) -> float:
         """About how many seconds are left: by what was measured, and more and more by what this run took so far."""
         whole = sum(self.weights.values()) - self.skipped
         done = sum(self.weights[crate] for crate in self.done) - self.skipped
-        done += sum(part() * self.weights[crate] for crate, part in self.parts.items())
         measured = (whole - done) / self.rate
         if done <= 0:
             return measured
-        seen = (whole - done) * elapsed / done
         share = min(1.0, 2 * done / whole)
-        return share * seen + (1 - share) * measured
+        return share * (whole - done) * elapsed / done + (1 - share) * measured
 
-    def text(self):
-        elapsed = time.monotonic() - self.begun
-        number = min(len(self.done) + 1, len(self.crates))
-        if len(self.done) == len(self.crates):
-            return f"{self.name}: all {len(self.crates)} crates are proved, {told(elapsed)} so far"
-        where = f"crate {number} of {len(self.crates)}" + (f" ({', '.join(self.parts)})" if self.parts else "")
-        return f"{self.name}: {where}, {told(elapsed)} so far, about {told(self.left(elapsed))} left"
+    def text(self) -> str:
+        elapsed, count = time.monotonic() - self.begun, len(self.crates)
+        if len(self.done) == count:
+            return f"{self.name}: all {count} crates are proved, {in_words(elapsed)} so far"
+        where = f"crate {len(self.done) + 1} of {count}"
+        return f"{self.name}: {where}, {in_words(elapsed)} so far, about {in_words(self.left(elapsed))} left"
 
-    def say(self):
+    def say(self) -> None:
         if self.rewrites:
             self.rewrite()
         else:
@@ -174,10 +162,9 @@ class Progress(Line):
                 print(self.text(), file=self.out, flush=True)
 
 
-def jobs(more=0):
-    """How many checks run at once: one a processor, or some more, as far as the memory that is free serves."""
-    # what a check takes at most, in kB: 3 GB, and a third more for what runs beside it
-    memory_of_a_check = 4_000_000
+def jobs() -> int:
+    """How many checks run at once: one a processor, as far as the memory that is free serves."""
     with open("/proc/meminfo", encoding="ascii") as lines:
-        free = int(re.search(r"MemAvailable:\s+(\d+)", lines.read())[1])
-    return max(1, min(len(os.sched_getaffinity(0)) + more, free // memory_of_a_check))
+        free = re.search(r"MemAvailable:\s+(\d+)", lines.read())
+    assert free
+    return max(1, min(len(os.sched_getaffinity(0)), int(free[1]) // MEMORY_OF_A_CHECK))

@@ -1,10 +1,13 @@
 """Splits a module of LLVM, as text, into some of about equal size that are compiled side by side and linked.
 
-All functions of a module are its own but `main`, or what a library exports. Those that are long stand in one part each, by the order in
-which they are reached from there, so that most calls stay in their part. Short ones stand in each part that calls them, so that they can
-be inlined there as in the whole. What nothing reaches is left out."""
+All functions of a module are its own but `main`, or what a library exports. Those that are long stand in one part each,
+by the order in which they are reached from there, so that most calls stay in their part. Short ones stand in each part
+that calls them, so that they can be inlined there as in the whole. What nothing reaches is left out."""
+from __future__ import annotations
+
 import dataclasses
 import re
+from collections.abc import Iterator, Mapping, Sequence
 
 # A function of more lines than these is long.
 SHORT = 200
@@ -26,19 +29,19 @@ class Unknown(Exception):
 
 @dataclasses.dataclass
 class Module:
-    """The pieces of a module by their names, and those that each part has as they are; `exported` are the functions that a linker finds."""
-    exported: tuple = MAIN
-    functions: dict = dataclasses.field(default_factory=dict)
-    globals: dict = dataclasses.field(default_factory=dict)
-    declared: dict = dataclasses.field(default_factory=dict)
-    head: list = dataclasses.field(default_factory=list)
-    tail: list = dataclasses.field(default_factory=list)
-
-    def __post_init__(self):
-        self.uses, self.lines = {}, {}
+    """The pieces of a module by their names, and those that each part has as they are; `exported` are the functions
+    that a linker finds."""
+    exported: Sequence[str] = MAIN
+    functions: dict[str, str] = dataclasses.field(default_factory=dict)
+    globals: dict[str, str] = dataclasses.field(default_factory=dict)
+    declared: dict[str, str] = dataclasses.field(default_factory=dict)
+    head: list[str] = dataclasses.field(default_factory=list)
+    tail: list[str] = dataclasses.field(default_factory=list)
+    uses: dict[str, set[str]] = dataclasses.field(default_factory=dict)
+    lines: dict[str, int] = dataclasses.field(default_factory=dict)
 
     @classmethod
-    def of(cls, text, exported):
+    def of(cls, text: str, exported: Sequence[str]) -> Module:
         module = cls(exported)
         for found in PIECE.finditer(text):
             module.add(found[0])
@@ -52,14 +55,15 @@ class Module:
             raise Unknown(f"it lacks one of {' '.join(exported)}, or names what it does not have")
         return module
 
-    def add(self, piece):
-        name = NAME.search(piece)[1] if piece.startswith("define ") else ""
-        if piece.startswith("define internal ") or name in self.exported:
+    def add(self, piece: str) -> None:
+        found = NAME.search(piece)
+        name = found[1] if found else ""
+        if piece.startswith("define internal ") or piece.startswith("define ") and name in self.exported:
             self.functions[name] = piece
         elif IS_COPIED.match(piece) or IS_SHARED.match(piece):
-            self.globals[NAME.match(piece)[1]] = piece
+            self.globals[name] = piece
         elif piece.startswith("declare "):
-            self.declared[NAME.search(piece)[1]] = piece
+            self.declared[name] = piece
         elif piece.startswith(("source_filename", "target ")):
             self.head.append(piece)
         elif piece.startswith(("attributes ", "!")):
@@ -67,9 +71,10 @@ class Module:
         elif piece.strip() and not piece.startswith(";"):
             raise Unknown(f"a line of another kind: {piece[:80]}")
 
-    def reached(self):
+    def reached(self) -> list[str]:
         """The functions that the exported ones reach, each before those that it is the first to call."""
-        found, waiting = {}, [*reversed(self.exported)]
+        found: dict[str, bool] = {}
+        waiting = [*reversed(self.exported)]
         while waiting:
             name = waiting.pop()
             if name in self.uses and name not in found:
@@ -78,9 +83,10 @@ class Module:
         return [name for name, is_function in found.items() if is_function]
 
 
-def owners(module, order, count):
+def owners(module: Module, order: Sequence[str], count: int) -> dict[str, int]:
     """The part in which each long function stands."""
-    whole, before, found = sum(module.lines[name] for name in order), 0, {}
+    whole, before = sum(module.lines[name] for name in order), 0
+    found: dict[str, int] = {}
     for name in order:
         if module.lines[name] > SHORT or name in module.exported:
             found[name] = before * count // whole
@@ -88,9 +94,11 @@ def owners(module, order, count):
     return found
 
 
-def stands_in(module, owner, part):
+def stands_in(module: Module, owner: Mapping[str, int], part: int) -> tuple[set[str], set[str]]:
     """What stands in a part, and what it uses of others."""
-    here, elsewhere, waiting = set(), set(), [name for name, of in owner.items() if of == part]
+    here: set[str] = set()
+    elsewhere: set[str] = set()
+    waiting = [name for name, of in owner.items() if of == part]
     while waiting:
         name = waiting.pop()
         if owner.get(name, part) != part or name in module.declared:
@@ -101,33 +109,37 @@ def stands_in(module, owner, part):
     return here, elsewhere
 
 
-def written(module, order, parts, number):
+def written(module: Module, order: Sequence[str], parts: Sequence[tuple[set[str], set[str]]],
+            number: int) -> Iterator[str]:
     """The text of a part."""
     here, elsewhere = parts[number]
-    called = set().union(*(others for _, others in parts))
+    called: set[str] = set().union(*(others for _, others in parts))
     yield from [*module.head, ELSEWHERE]
     for name, piece in module.globals.items():
-        if name in here and IS_SHARED.match(piece):
-            is_first = not any(name in before for before, _ in parts[:number])
-            yield IS_SHARED.sub(r"\1hidden \2", piece) if is_first else IS_SHARED.match(piece)[1] + \
-                f"external hidden {IS_SHARED.match(piece)[2]}%elsewhere\n"
-        elif name in here:
-            yield piece
+        shared = IS_SHARED.match(piece)
+        if name not in here or not shared:
+            yield from [piece] if name in here else []
+        elif any(name in before for before, _ in parts[:number]):
+            yield f"{shared[1]}external hidden {shared[2]}%elsewhere\n"
+        else:
+            yield IS_SHARED.sub(r"\1hidden \2", piece)
     for name in order:
         if name in here:
-            yield module.functions[name].replace("define internal ", "define hidden ", 1) if name in called else module.functions[name]
+            seen = "define hidden " if name in called else "define internal "
+            yield module.functions[name].replace("define internal ", seen, 1)
     for name in sorted(elsewhere):
         head = module.functions.get(name, "").partition("\n")[0]
         yield module.declared.get(name) or declaration(head)
     yield from module.tail
 
 
-def declaration(head):
+def declaration(head: str) -> str:
     """What stands in a part for a function of another one, by its first line."""
-    return head.replace("define internal ", "declare hidden ", 1).replace("define ", "declare ", 1).removesuffix(" {") + "\n"
+    head = head.replace("define internal ", "declare hidden ", 1).replace("define ", "declare ", 1)
+    return head.removesuffix(" {") + "\n"
 
 
-def split(text, count, exported=MAIN):
+def split(text: str, count: int, exported: Sequence[str] = MAIN) -> list[str]:
     """The texts of so many parts, where these functions are to be found by a linker."""
     if count == 1:
         return [text]

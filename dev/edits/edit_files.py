@@ -1,15 +1,21 @@
 """The wrong bodies under `edits/NAME`: what each changes in the crate NAME, and in which functions.
 
-An edit is a file of lines: `file: PATH` of the crate, then pairs `old: TEXT` and `new: TEXT`. With a line `only: FUNCTION`
-each run of the tests tries it."""
+An edit is a file of lines: `file: PATH` of the crate, then pairs `old: TEXT` and `new: TEXT`. With a line `only:
+FUNCTION` each run of the tests tries it."""
+from __future__ import annotations
+
 import os
 import re
+from collections.abc import Iterable, Iterator, Mapping, Sequence
 from functools import cache
+from pathlib import Path
 from typing import NamedTuple
 
 from dev.building.progress import TOP
 
-CRATES, EDITS = os.path.join(TOP, "crates"), os.path.join(TOP, "edits")
+CRATES, EDITS = str(TOP / "crates"), str(TOP / "edits")
+
+Change = tuple[str, str, str]  # a file, the old text, and the new one
 
 
 class Function(NamedTuple):
@@ -24,13 +30,12 @@ class Edit(NamedTuple):
     file: str
     # the function that each run tries the edit by
     only: str | None
-    # (file, old text, new text)
-    changes: tuple
+    changes: tuple[Change, ...]
 
 
-def changes(text):
+def changes(text: str) -> Iterator[Change]:
     """The texts that an edit takes away, each with its file and what stands there then."""
-    path = old = None
+    path = old = ""
     for line in text.split("\n"):
         if line.startswith("file: "):
             path = line.removeprefix("file: ")
@@ -40,28 +45,27 @@ def changes(text):
             yield path, old, line.removeprefix("new:").removeprefix(" ")
 
 
-def edit_of(crate, file, text):
+def edit_of(crate: str, file: str, text: str) -> Edit:
     only = re.search(r"^only: (\S+)$", text, re.M)
-    return Edit(crate, file, only and only[1], tuple(changes(text)))
+    return Edit(crate, file, only[1] if only else None, tuple(changes(text)))
 
 
-def edits_of(crate):
+def edits_of(crate: str) -> Iterator[Edit]:
     """The edits of a crate, by their names."""
-    folder = os.path.join(EDITS, crate)
-    for file in sorted(os.listdir(folder)) if os.path.isdir(folder) else []:
-        with open(os.path.join(folder, file), encoding="utf-8") as text:
-            yield edit_of(crate, file, text.read())
+    for file in sorted(Path(EDITS, crate).glob("*")):
+        yield edit_of(crate, file.name, file.read_text(encoding="utf-8"))
 
 
-def name_of(words, own):
-    """A type or a trait as the prover names it in an impl: its words one after another, but for the impl's own parameters."""
+def name_of(words: str, own: Iterable[str]) -> str:
+    """A type or a trait as the prover names it in an impl: its words one after another, but for the impl's own
+    parameters."""
     plain = re.findall(r"\b\w+\b", re.sub(r"'\w+|\b\w+::", "", words))
     return "".join(word[0].upper() + word[1:] for word in plain if word not in (*own, "mut"))
 
 
-def owner_of(line, module, homes):
-    """What the functions below a head `impl` or `trait` stand under, or None where the line is none. The methods of a type
-    stand under it wherever they are written, those of a trait where they are written."""
+def owner_of(line: str, module: Sequence[str], homes: Mapping[str, Sequence[str]]) -> list[str] | None:
+    """What the functions below a head `impl` or `trait` stand under, or None where the line is none. The methods of a
+    type stand under it wherever they are written, those of a trait where they are written."""
     trait = re.match(r"(?:pub(?:\(\w+\))? )?trait (\w+)", line)
     if trait:
         return [*module, trait[1]]
@@ -69,18 +73,26 @@ def owner_of(line, module, homes):
     if not head:
         return None
     own = re.findall(r"[<,] *(\w+)", head[1] or "")
-    of = re.match(r"(?:&(?:'\w+ )?(?:mut )?)?(?:\w+::)*(\w*)", head[3])[1]
-    return [*module, of[:1].upper() + of[1:] + name_of(head[2], own)] if head[2] else [*homes.get(of, module), of]
+    found = re.match(r"(?:&(?:'\w+ )?(?:mut )?)?(?:\w+::)*(\w*)", head[3])
+    of = found[1] if found else ""
+    if not head[2]:
+        return [*homes.get(of, module), of]
+    # an impl for each type that meets a bound is one for any
+    return [*module, ("Any" if of in own else of[:1].upper() + of[1:]) + name_of(head[2], own)]
 
 
-def module_of(path):
+def module_of(path: str) -> list[str]:
     module = path.removeprefix("src/").removesuffix(".rt")
     return [] if module in ("lib", "main") else module.split("/")
 
 
-def functions(path, text, homes):
-    """The functions of a source file that have a body. By its layout a line of `}` or `{}` under a head ends its body."""
-    module, owner, begun, marked = module_of(path), None, None, None
+def functions(path: str, text: str, homes: Mapping[str, Sequence[str]]) -> Iterator[Function]:
+    """The functions of a source file that have a body. By its layout a line of `}` or `{}` under a head ends its
+    body."""
+    module = module_of(path)
+    owner: list[str] | None = None
+    begun: tuple[str, int, tuple[str, str]] | None = None
+    marked: int | None = None
     for number, line in enumerate(text.split("\n"), 1):
         owner = owner_of(line, module, homes) or owner
         head = re.match(r'( {4}|)(?:pub(?:\(\w+\))? )?(?:const )?(?:unsafe )?(?:extern "C" )?fn (\w+)', line)
@@ -99,51 +111,48 @@ def functions(path, text, homes):
             owner = begun = None
 
 
-def functions_in(folder):
+def functions_in(folder: str) -> list[tuple[str, Function]]:
     """The functions of a crate that stands in a folder, each with its file."""
-    texts = {}
-    for at, _, files in os.walk(os.path.join(folder, "src")):
-        for file in sorted(files):
-            if file.endswith(".rt"):
-                with open(os.path.join(at, file), encoding="utf-8") as source:
-                    texts[os.path.relpath(os.path.join(at, file), folder)] = source.read()
+    texts = {str(file.relative_to(folder)): file.read_text(encoding="utf-8")
+             for file in Path(folder, "src").rglob("*.rt")}
     declared = r"^(?:pub(?:\(\w+\))? )?(?:struct|enum|union) (\w+)"
     homes = {name: module_of(path) for path, text in texts.items() for name in re.findall(declared, text, re.M)}
     return [(path, function) for path, text in sorted(texts.items()) for function in functions(path, text, homes)]
 
 
 @cache
-def functions_by_file(crate):
-    found = {}
+def functions_by_file(crate: str) -> dict[str, list[Function]]:
+    found: dict[str, list[Function]] = {}
     for path, function in functions_in(os.path.join(CRATES, crate)):
         found.setdefault(path, []).append(function)
     return found
 
 
-def functions_of(edit):
-    """The functions whose text an edit changes, with their files; nothing where it changes a text outside a function."""
+def functions_of(edit: Edit) -> set[tuple[str, Function]]:
+    """The functions whose text an edit changes, with their files; nothing where it changes a text outside a
+    function."""
     found = set()
     for path, old, _ in edit.changes:
-        with open(os.path.join(CRATES, edit.crate, path), encoding="utf-8") as source:
-            before, _, behind = source.read().partition(old)
+        before, _, behind = Path(CRATES, edit.crate, path).read_text(encoding="utf-8").partition(old)
         first = before.count("\n") + 1
-        within = [it for it in functions_by_file(edit.crate)[path] if it.first <= first and first + old.count("\n") <= it.last]
+        within = [function for function in functions_by_file(edit.crate)[path]
+                  if function.first <= first and first + old.count("\n") <= function.last]
         if not behind or not within:
             return set()
         found.add((path, within[0]))
     return found
 
 
-def put_in_place(edits, folder):
-    """Puts edits in their places in a copy of their crate, each where its text stands before any of them is put there."""
-    places = {}
+def put_in_place(edits: Iterable[Edit], folder: str) -> None:
+    """Puts edits in their places in a copy of their crate, each where its text stands before any of them is put
+    there."""
+    places: dict[str, list[tuple[str, str]]] = {}
     for edit in edits:
         for path, old, new in edit.changes:
             places.setdefault(path, []).append((old, new))
     for path, pairs in places.items():
-        at = os.path.join(folder, path)
-        with open(at, encoding="utf-8") as source:
-            text = source.read()
+        file = Path(folder, path)
+        text = file.read_text(encoding="utf-8")
         for old, _ in pairs:
             if text.count(old) != 1:
                 raise ValueError(f"{old} does not stand once in {path}")
@@ -152,5 +161,4 @@ def put_in_place(edits, folder):
             if begin + len(old) > end:
                 raise ValueError(f"{old} overlaps with another edit of {path}")
             text, end = text[:begin] + new + text[begin + len(old):], begin
-        with open(at, "w", encoding="utf-8") as source:
-            source.write(text)
+        file.write_text(text, encoding="utf-8")

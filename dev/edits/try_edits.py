@@ -1,17 +1,22 @@
 """Tries all wrong bodies: `edits/NAME` holds edits of the crate NAME, each of which the prover has to refuse.
 
-Each is tried by the function that it changes. One that this does not refuse, or that changes what is no function, is tried by
-a proof of the whole crate, as the kit's gate does with `crates/NAME/must-fail`."""
+Each is tried by the function that it changes. One that this does not refuse, or that changes what is no function, is
+tried by a proof of the whole crate, as the kit's gate does with `crates/NAME/must-fail`."""
+from __future__ import annotations
+
 import os
 import re
 import shutil
 import subprocess
 import tempfile
+from collections.abc import Sequence
 from concurrent.futures import ThreadPoolExecutor
+from pathlib import Path
 
-from dev.building.progress import TOP, jobs
-from dev.draw_crates import reached, stands_on
-from dev.edits.edit_files import CRATES, EDITS, edits_of, functions_of
+from dev.building.gate import copy_crates
+from dev.building.progress import jobs, stands_on
+from dev.draw_crates import reached
+from dev.edits.edit_files import EDITS, Edit, edits_of, functions_of
 from dev.edits.try_rounds import (
     BAD,
     BY_CLAUSE,
@@ -26,8 +31,8 @@ from dev.edits.try_rounds import (
     try_in_rounds,
 )
 
-# What else a try of a whole crate comes to, and the words by which `rt must-fail` tells it. It tells the beginning of one error: where
-# that has no values, it counts as one of the proof.
+# What else a try of a whole crate comes to, and the words by which `rt must-fail` tells it. It tells the beginning of
+# one error: where that has no values, it counts as one of the proof.
 BY_LIMIT, NOT_TRIED = "refused only by a limit of the prover", "not tried"
 WORDS = {
     BY_NAME: "refused, as it must be (only because a proof file",
@@ -41,19 +46,15 @@ KINDS = (BY_CLAUSE, *WORDS)
 REFUSED = (BY_CLAUSE, BY_PROOF, BY_NAME, BY_LIMIT)
 
 
-def edited_crates():
+def edited_crates() -> list[str]:
     return [name for name in sorted(os.listdir(EDITS)) if any(edits_of(name))]
 
 
-def copy_with_edits(edits, to):
-    """Copies the crates with the libraries that stand below those of the edits, and puts these edits where the kit's gate tries
-    them."""
-    shutil.copytree(CRATES, os.path.join(to, "crates"), ignore=shutil.ignore_patterns("out"))
-    for file in ("crates.txt", "HANDLES"):
-        shutil.copy(os.path.join(TOP, file), to)
-    # the kit takes a folder with this for the top of a repository
-    os.mkdir(os.path.join(to, ".git"))
+def copy_with_edits(edits: Sequence[Edit], to: str) -> None:
+    """Copies the crates with the libraries that stand below those of the edits, and puts these edits where the kit's
+    gate tries them."""
     crates = stands_on()
+    copy_crates(crates, Path(to))
     for name in set().union(*(reached(crates, edit.crate) for edit in edits)):
         built = os.path.dirname(library(name))
         if os.path.isdir(built):
@@ -64,37 +65,38 @@ def copy_with_edits(edits, to):
         shutil.copy(os.path.join(EDITS, edit.crate, edit.file), there)
 
 
-def try_whole(edits):
+def try_whole(edits: Sequence[Edit]) -> dict[tuple[str, str], str]:
     """Tries edits by proofs of whole crates; answers what came of each of them."""
     kinds = dict.fromkeys(((edit.crate, edit.file) for edit in edits), NOT_TRIED)
     with tempfile.TemporaryDirectory() as room:
         copy_with_edits(edits, room)
-        given = {"RT_JOBS": str(jobs()), **os.environ}
-        with subprocess.Popen(["rt", "must-fail", *sorted({edit.crate for edit in edits})], cwd=room, env=given,
-                              stdin=subprocess.DEVNULL, stdout=subprocess.PIPE, stderr=subprocess.STDOUT, text=True,
+        command = ["rt", "must-fail", *sorted({edit.crate for edit in edits})]
+        with subprocess.Popen(command, cwd=room, env={"RT_JOBS": str(jobs()), **os.environ}, stdin=subprocess.DEVNULL,
+                              stdout=subprocess.PIPE, stderr=subprocess.STDOUT, text=True,
                               errors="replace") as running:
-            for line in running.stdout:
+            for line in running.stdout or ():
                 print(line, end="", flush=True)
                 told = re.match(r"(?:rt: )?must-fail (\w+)/(\S+): (.*)", line)
-                kind = told and next((kind for kind, words in WORDS.items() if told[3].startswith(words)), None)
-                if kind and (told[1], told[2]) in kinds:
+                if told and (told[1], told[2]) in kinds:
+                    kind = next((kind for kind, words in WORDS.items() if told[3].startswith(words)), NOT_TRIED)
                     kinds[told[1], told[2]] = BY_CLAUSE if kind == BY_PROOF and VALUES.search(told[3]) else kind
     return kinds
 
 
-def try_by_functions(edits, room):
-    """Tries edits of one crate by the functions that they change; answers what came of them, as far as each changes one."""
+def try_by_functions(edits: Sequence[Edit], room: str) -> dict[tuple[str, str], str]:
+    """Tries edits of one crate by the functions that they change; answers what came of them, as far as each changes
+    one."""
     kinds = {}
-    for edit, (kind, said) in try_in_rounds([edit for edit in edits if len(functions_of(edit)) == 1], room):
-        print(f"{edit.crate}/{edit.file}: {kind}: {said[:160]}", flush=True)
+    for edit, (kind, why) in try_in_rounds([edit for edit in edits if len(functions_of(edit)) == 1], room):
+        print(f"{edit.crate}/{edit.file}: {kind}: {why[:160]}", flush=True)
         kinds[edit.crate, edit.file] = kind
     return kinds
 
 
-def count(names):
+def count(names: Sequence[str]) -> dict[str, dict[str, int]]:
     """Tries the edits of these crates, those with the most first; answers how many came to what, by crate."""
     crates = sorted((list(edits_of(name)) for name in names), key=len, reverse=True)
-    kinds = {}
+    kinds: dict[tuple[str, str], str] = {}
     with tempfile.TemporaryDirectory() as room, ThreadPoolExecutor(jobs()) as pool:
         for name in build_below(names):
             take(name, room)
@@ -109,7 +111,7 @@ def count(names):
     return counts
 
 
-def edits(names):
+def edits(names: Sequence[str]) -> tuple[int, int]:
     """Tries the edits of these crates, or of all, and answers how many were refused and how many were not."""
     known = edited_crates()
     lacking = [name for name in names if name not in known]

@@ -1,17 +1,23 @@
 """What is installed, where each file goes below a prefix, and what it says there.
 
-`lib/registryd` has the program and the packages as they stand in a checkout, so that they find one another; what is in `bin` finds
-them from where it stands itself, so a prefix may be moved. Nothing is written here: `pieces` answers it all."""
+`lib/registryd` has the program and the packages as they stand in a checkout, so that they find one another; what is in
+`bin` finds them from where it stands itself, so a prefix may be moved. Nothing is written here: `pieces` answers it
+all."""
+from __future__ import annotations
+
 import functools
 import glob
 import importlib.util
 import marshal
 import posixpath
 import re
+from collections.abc import Iterator, Mapping, Sequence
 from dataclasses import dataclass
 
 from dev.building import c_library, programs
-from dev.building.programs import NAME, TOP
+from dev.building.c_library import Library
+from dev.building.programs import NAME, PROVED, Program
+from dev.building.progress import TOP
 from dev.installing.prefix import Refused
 from registry_cli import completion, manual
 
@@ -26,29 +32,33 @@ TOOLS = {
 COMMAND = "registry"
 # What the commands are made of, and what runs a module of that.
 PACKAGES, RUNNER = ("registry_cli", "registry_etcd", "registry_service", "registryd_lines"), "__main__.py"
-# Files that are copied as they stand, by the folder that they go to; what stands in a folder of the sources keeps its place in it.
+# Files that are copied as they stand, by the folder that they go to; what stands in a folder of the sources keeps its
+# place in it.
 COPIES = {
     LIB: ["registry_cli/page/files/*"],
-    SHARE: ["docs/*.schema.json", "clients/python/pyproject.toml", "clients/python/*/*.py", "clients/python/*/py.typed", "clients/c/*.[ch]", "clients/c/*.rs", "clients/c/*.txt", "clients/c/*.in",
-            "clients/c/Makefile", "clients/rust/*.toml", "clients/rust/Cargo.lock", "clients/rust/*.rs",
-            "clients/rust/src/*.rs", "clients/rust/examples/*.rs", "clients/rust/tests/*.rs", "clients/rust/tests/common/*.rs"],
+    SHARE: ["docs/*.schema.json", "clients/python/pyproject.toml", "clients/python/*/*.py", "clients/python/*/py.typed",
+            "clients/c/*.[ch]", "clients/c/*.rs", "clients/c/*.txt", "clients/c/*.in", "clients/c/Makefile",
+            "clients/c/run_example",
+            "clients/rust/*.toml", "clients/rust/Cargo.lock", "clients/rust/*.rs", "clients/rust/src/*.rs",
+            "clients/rust/examples/*.rs", "clients/rust/tests/*.rs", "clients/rust/tests/common/*.rs"],
     DOC: ["docs/why.svg", "docs/selection.svg", "LICENSE*"],
 }
 # Pages: the links in them lead to where the other files are installed.
 PAGES = {
     SHARE: ["clients/README.md", "clients/c/README.md", "clients/rust/README.md"],
-    DOC: ["CHANGELOG.md", "docs/USING.md", "docs/FORMATS.md", "docs/REGISTRY.md", "docs/WHY.md", "docs/IMPORTING.md", "docs/SCALE.md",
-          "docs/REGISTRY_COMMAND.md", "docs/SERVICE.md", "docs/GLOSSARY.md"],
+    DOC: ["CHANGELOG.md", "docs/USING.md", "docs/FORMATS.md", "docs/REGISTRY.md", "docs/WHY.md", "docs/IMPORTING.md",
+          "docs/SCALE.md", "docs/REGISTRY_COMMAND.md", "docs/SERVICE.md", "docs/GLOSSARY.md"],
 }
 # What systemd reads: the service, with the prefix in its words, and the user that it runs as.
-SYSTEMD = {"lib/systemd/system/registryd.service": "dev/installing/systemd/registryd.service", "lib/sysusers.d/registryd.conf": "dev/installing/systemd/registryd.sysusers"}
+SYSTEMD = {"lib/systemd/system/registryd.service": "dev/installing/systemd/registryd.service",
+           "lib/sysusers.d/registryd.conf": "dev/installing/systemd/registryd.sysusers"}
 # Manual pages, each with the other names that it is found by.
-MANUALS = {"docs/registryd.1": [], "docs/registry-tools.1": list(TOOLS)}
+MANUALS: dict[str, list[str]] = {"docs/registryd.1": [], "docs/registry-tools.1": list(TOOLS)}
 # Where each shell looks for completions of a command.
 COMPLETIONS = {"bash": "share/bash-completion/completions/{}", "zsh": "share/zsh/site-functions/_{}",
                "fish": "share/fish/vendor_completions.d/{}.fish"}
-TOLD = {
-    programs.PROVED: "The program is proved: all its sources were proved before it was built.",
+STATES = {
+    PROVED: "The program is proved: all its sources were proved before it was built.",
     programs.COMPILED: "The program is compiled from its sources, with checks as it runs. It is not proved.",
 }
 # How the program's command asks glibc for huge pages, as `./registryd` does.
@@ -76,39 +86,39 @@ class Piece:
     link: str = ""
 
 
-def chosen(may_be_unproved):
-    """The program that is installed: the proved one of these sources, or where that may be, the compiled one with its checks."""
-    program = programs.current(NAME)
-    if program and (program.kind == programs.PROVED or may_be_unproved):
-        return program
+def program(may_be_unproved: bool) -> Program:
+    """The program that is installed: the proved one of these sources, or where that may be, the compiled one with its
+    checks."""
+    found = programs.current(NAME)
+    if found and (found.kind == PROVED or may_be_unproved):
+        return found
     if may_be_unproved:
         raise Refused("no program of these sources stands that checks as it runs: run tools/build --compiled first")
-    also = ", or take the compiled one with --unproved" if program else ""
-    raise Refused(f"no program stands that was proved from these sources: run ./test or tools/build --proved first{also}")
+    also = ", or take the compiled one with --unproved" if found else ""
+    proving = "run ./test or tools/build --proved first"
+    raise Refused(f"no program stands that was proved from these sources: {proving}{also}")
 
 
-def library(program):
-    """The library for C that is installed with a program: the one that stands, if what it has within is proved, or the program is not
-    proved either; else none."""
+def library(program: Program) -> Library | None:
+    """The library for C that is installed with a program: the one that stands, if what it has within is proved, or the
+    program is not proved either; else none."""
     found = c_library.standing()
-    return found if found and (found.kind == programs.PROVED or program.kind != programs.PROVED) else None
+    return found if found and (found.kind == PROVED or program.kind != PROVED) else None
 
 
-def told(kind):
-    """What the installed program says of itself."""
-    return f"{NAME} {programs.version()}, commit {programs.commit()}\n{TOLD[kind]}"
-
-
-def program_pieces(program):
-    """The program, and the command that runs it, which alone knows its version. It starts no other process unless it is a link."""
+def program_pieces(program: Program) -> list[Piece]:
+    """The program, and the command that runs it, which alone knows its version. It starts no other process unless it is
+    a link."""
+    version = f"{NAME} {programs.version()}, commit {programs.commit()}\n{STATES[program.kind]}"
     command = ("#!/bin/sh\n# Runs the program that is installed with it.\n"
-               f'case ${{1-}} in --version | -V)\n    cat <<\\END\n{told(program.kind)}\nEND\n    exit ;;\nesac\n'
+               f'case ${{1-}} in --version | -V)\n    cat <<\\END\n{version}\nEND\n    exit ;;\nesac\n'
                f'{FIND}{HUGE_PAGES}exec "$here/../{LIB}/{NAME}" "$@"\n')
     return [Piece(f"bin/{NAME}", command.encode(), 0o755), Piece(f"{LIB}/{NAME}", program.path.read_bytes(), 0o755)]
 
 
-def tool_pieces():
-    """The tools with their packages, and the commands that run them. Python keeps nothing beside them that was not installed."""
+def tool_pieces() -> Iterator[Piece]:
+    """The tools with their packages, and the commands that run them. Python keeps nothing beside them that was not
+    installed."""
     for name, (_, module) in TOOLS.items():
         command = f'#!/bin/sh\n{FIND}exec python3 -B "$here/../{LIB}" {module} "$@"\n'
         yield Piece(f"bin/{name}", command.encode(), 0o755)
@@ -120,15 +130,16 @@ def tool_pieces():
 
 
 @functools.cache
-def byte_code(path, data):
-    """What a Python of this version keeps of a module, which else it compiles at each start. It holds as long as the module has these
-    bytes, whatever time its file has (PEP 552: a hash that is checked)."""
-    flags = 0b11
-    return importlib.util.MAGIC_NUMBER + flags.to_bytes(4, "little") + importlib.util.source_hash(data) + marshal.dumps(compile(data, path, "exec"))
+def byte_code(path: str, data: bytes) -> bytes:
+    """What a Python of this version keeps of a module, which else it compiles at each start. It holds as long as the
+    module has these bytes, whatever time its file has (PEP 552: a hash that is checked)."""
+    head = importlib.util.MAGIC_NUMBER, (0b11).to_bytes(4, "little"), importlib.util.source_hash(data)
+    return b"".join([*head, marshal.dumps(compile(data, path, "exec"))])  # type: ignore[list-item]  # typeshed says int
 
 
-def command_pieces():
-    """The command for people, with its manual page, which is made of its table of words. Of its version the program's command tells."""
+def command_pieces() -> list[Piece]:
+    """The command for people, with its manual page, which is made of its table of words. Of its version the program's
+    command tells."""
     command = (f'#!/bin/sh\n{FIND}case $* in --version | -V) exec "$here/{NAME}" --version ;; esac\n'
                f'exec python3 -B -S "$here/../{LIB}/{COMMAND}" "$@"\n')
     text = (TOP / COMMAND).read_text(encoding="utf-8").partition("\n")[2]
@@ -136,19 +147,19 @@ def command_pieces():
             Piece(f"{MAN}/{COMMAND}.1", manual.page(f"{NAME} {programs.version()}").encode())]
 
 
-def renamed(text):
+def renamed(text: str) -> str:
     """A text that speaks of the program and its tools as they are called in a checkout, with their installed names."""
     return renamed_by(text, tuple((name, called) for name, (called, _) in TOOLS.items()))
 
 
 @functools.cache
-def renamed_by(text, tools):
+def renamed_by(text: str, tools: Sequence[tuple[str, str]]) -> str:
     for name, called in tools:
         text = re.sub(rf"(?<![\w/.]){re.escape(called)}(?![\w/])", name, text)
     return re.sub(rf"(?<![\w/.])\./({NAME}|{COMMAND})(?![\w/-])", r"\1", text)
 
 
-def sources(table):
+def sources(table: Mapping[str, Sequence[str]]) -> Iterator[tuple[str, str]]:
     """The files of a table of patterns, each with where it goes."""
     for folder, patterns in table.items():
         for pattern in patterns:
@@ -156,18 +167,18 @@ def sources(table):
                 yield path, f"{folder}/{path.removeprefix('docs/')}"
 
 
-def linked(text, path, to, places):
+def linked(text: str, path: str, to: str, places: Mapping[str, str]) -> str:
     """A page with its links to what is installed; of a link to anything else its text stays."""
-    def link(found):
-        said, target, part = found[1], found[2], found[3] or ""
+    def link(found: re.Match[str]) -> str:
+        words, target, part = found[1], found[2], found[3] or ""
         at = posixpath.normpath(posixpath.join(posixpath.dirname(path), target))
         if "://" in target or not target:
             return found[0]
-        return f"[{said}]({posixpath.relpath(places[at], posixpath.dirname(to))}{part})" if at in places else said
+        return f"[{words}]({posixpath.relpath(places[at], posixpath.dirname(to))}{part})" if at in places else words
     return re.sub(r"\[([^\]]+)\]\(([^)#]*)(#[^)]*)?\)", link, text)
 
 
-def page_pieces():
+def page_pieces() -> Iterator[Piece]:
     """What is read: pages, the schema, the clients, manual pages."""
     copies, pages = dict(sources(COPIES)), dict(sources(PAGES))
     for path, to in copies.items():
@@ -181,24 +192,24 @@ def page_pieces():
         yield from (Piece(f"{MAN}/{name}.1", link=page) for name in names)
 
 
-def library_pieces(of):
+def library_pieces(library: Library | None) -> list[Piece]:
     """The library for C with its header, found by `pkg-config` too; nothing where there is none."""
-    if not of:
+    if not library:
         return []
-    shared = c_library.SHARED
-    return [*(Piece(f"lib/{file}", (of.folder / file).read_bytes()) for file in c_library.FILES), Piece("lib/libregistryd.so", link=shared),
+    files = [Piece(f"lib/{file}", (library.folder / file).read_bytes()) for file in c_library.FILES]
+    return [*files, Piece("lib/libregistryd.so", link=c_library.SHARED),
             Piece("include/registryd.h", (TOP / HEADER).read_bytes()),
-            Piece("lib/pkgconfig/registryd.pc", c_library.pkg_config(programs.version(), of.kind).encode())]
+            Piece("lib/pkgconfig/registryd.pc", c_library.pkg_config(programs.version(), library.kind).encode())]
 
 
-def systemd_pieces(prefix):
+def systemd_pieces(prefix: str) -> Iterator[Piece]:
     """What systemd reads. A percent sign is one of its own marks, a backslash and a quote are those of its words."""
     where = prefix.rstrip("/").replace("\\", "\\\\").replace('"', '\\"').replace("%", "%%")
     for path, source in SYSTEMD.items():
         yield Piece(path, (TOP / source).read_text(encoding="utf-8").replace("@PREFIX@", where).encode())
 
 
-def pieces(program, prefix="/usr", library=None):
+def pieces(program: Program, prefix: str = "/usr", library: Library | None = None) -> list[Piece]:
     """All that is installed, for one program below a prefix, and with a library for C, if there is one."""
     shells = []
     for shell, text in completion.SCRIPTS.items():
@@ -206,5 +217,6 @@ def pieces(program, prefix="/usr", library=None):
         shells.append(Piece(places[0], text.encode()))
         if shell != "zsh":  # the same one completes both; zsh finds it by the words of its first line
             shells.append(Piece(places[1], link=posixpath.basename(places[0])))
-    return sorted([*program_pieces(program), *library_pieces(library), *command_pieces(), *tool_pieces(), *page_pieces(),
-                   *systemd_pieces(prefix), *shells], key=lambda it: it.path)
+    every = [*program_pieces(program), *library_pieces(library), *command_pieces(), *tool_pieces(), *page_pieces(),
+             *systemd_pieces(prefix), *shells]
+    return sorted(every, key=lambda piece: piece.path)

@@ -1,9 +1,19 @@
 """Puts files below a prefix, and removes them again, by a list that is kept there.
 
-Everything is written beside its place first; then each file takes its place by one rename. So what fails on the way, as a full
-disk does, leaves what stood there. The list names each file, and each folder that was made with a slash behind it."""
+Everything is written beside its place first; then each file takes its place by one rename. So what fails on the way, as
+a full disk does, leaves what stood there. The list names each file, and each folder that was made with a slash behind
+it."""
+from __future__ import annotations
+
 import os
 import shutil
+from collections.abc import Iterable, Iterator, Sequence
+from contextlib import contextmanager
+from pathlib import Path
+from typing import TYPE_CHECKING
+
+if TYPE_CHECKING:
+    from dev.installing.installed import Piece
 
 LIST = "lib/registryd/installed"
 # Where files wait until all of them are written.
@@ -16,7 +26,7 @@ class Refused(Exception):
     """Why nothing was installed or removed."""
 
 
-def listed(prefix):
+def listed(prefix: Path) -> list[str]:
     """What the list below a prefix names; nothing where there is none."""
     try:
         lines = (prefix / LIST).read_text(encoding="utf-8").splitlines()
@@ -27,36 +37,41 @@ def listed(prefix):
     return lines
 
 
-def install(prefix, pieces):
+def install(prefix: Path, pieces: Sequence[Piece]) -> None:
     """Puts these pieces below a prefix, in the place of what was installed there before."""
     before = listed(prefix)
-    files = [*(it.path for it in pieces), LIST]
+    files = [*(piece.path for piece in pieces), LIST]
     for path in files:
         if os.path.lexists(prefix / path) and path not in before:
-            raise Refused(f"{prefix / path} is there already, and no install put it there: move it away, or name another prefix")
+            raise Refused(f"{prefix / path} is there already, and no install put it there: move it away, "
+                          "or name another prefix")
     shutil.rmtree(prefix / NEW, ignore_errors=True)
     missing = folders_to_make(prefix, files)
     try:
-        stage(prefix, missing, pieces)
-    except (OSError, KeyboardInterrupt) as fault:
+        with refusing("nothing was installed"):
+            stage(prefix, missing, pieces)
+    except Refused:
         shutil.rmtree(prefix / NEW, ignore_errors=True)
         leave(prefix, missing)
-        raise Refused(f"{reason(fault)}; nothing was installed") from None
-    now = sorted({*files, *missing, *(it for it in before if it.endswith("/"))})
-    try:
+        raise
+    now = sorted({*files, *missing, *(path for path in before if path.endswith("/"))})
+    with refusing("what is installed is not whole: install it again, or remove it"):
         take_places(prefix, pieces, before, now)
-    except (OSError, KeyboardInterrupt) as fault:
-        raise Refused(f"{reason(fault)}; what is installed is not whole: install it again, or remove it") from None
 
 
-def reason(fault):
-    """Why something was not done, with the file at which it failed."""
-    if isinstance(fault, KeyboardInterrupt):
-        return "it was broken off"
-    return f"{fault.filename}: {fault.strerror}" if fault.filename else str(fault)
+@contextmanager
+def refusing(state: str) -> Iterator[None]:
+    """Tells why something was not done, with the file at which it failed, and what state that leaves."""
+    try:
+        yield
+    except KeyboardInterrupt:
+        raise Refused(f"it was broken off; {state}") from None
+    except OSError as fault:
+        why = f"{fault.filename}: {fault.strerror}" if fault.filename else str(fault)
+        raise Refused(f"{why}; {state}") from None
 
 
-def stage(prefix, folders, pieces):
+def stage(prefix: Path, folders: Iterable[str], pieces: Iterable[Piece]) -> None:
     """Makes the folders that are missing, and writes pieces beside their places, under their numbers."""
     for folder in [*folders, NEW]:
         (prefix / folder).mkdir(parents=folder == "./")
@@ -65,7 +80,7 @@ def stage(prefix, folders, pieces):
         put(prefix / NEW / str(number), piece)
 
 
-def put(path, piece):
+def put(path: Path, piece: Piece) -> None:
     """Writes one piece at a path."""
     if piece.link:
         path.symlink_to(piece.link)
@@ -74,18 +89,18 @@ def put(path, piece):
         path.chmod(piece.mode)
 
 
-def take_places(prefix, pieces, before, now):
+def take_places(prefix: Path, pieces: Iterable[Piece], before: Sequence[str], now: Sequence[str]) -> None:
     """Puts what is staged in its places, and takes away what only an earlier install had."""
     # if it is broken off, the list names all that may be there, old and new
     write_list(prefix, sorted({*before, *now}))
     for number, piece in enumerate(pieces):
         os.replace(prefix / NEW / str(number), prefix / piece.path)
     (prefix / NEW).rmdir()
-    take_away(prefix, [it for it in before if it not in now])
+    take_away(prefix, [path for path in before if path not in now])
     write_list(prefix, now)
 
 
-def folders_to_make(prefix, paths):
+def folders_to_make(prefix: Path, paths: Iterable[str]) -> list[str]:
     """The folders that are missing below a prefix for these paths, the upper ones first; the prefix itself is `./`."""
     found = ["./"] if not prefix.is_dir() else []
     for path in paths:
@@ -97,41 +112,40 @@ def folders_to_make(prefix, paths):
     return found
 
 
-def write_list(prefix, lines):
+def write_list(prefix: Path, lines: Iterable[str]) -> None:
     new = prefix / f"{LIST}.new"
-    new.write_text("".join(f"{it}\n" for it in lines), encoding="utf-8")
+    new.write_text("".join(f"{line}\n" for line in lines), encoding="utf-8")
     new.chmod(0o644)
     os.replace(new, prefix / LIST)
 
 
-def remove(prefix):
-    """Removes what was installed below a prefix: files, and the folders that were made for them. Answers the folders that stay since
-    something else is in them."""
+def remove(prefix: Path) -> list[Path]:
+    """Removes what was installed below a prefix: files, and the folders that were made for them. Answers the folders
+    that stay since something else is in them."""
     lines = listed(prefix)
     if not lines:
         raise Refused(f"nothing is installed below {prefix}: {prefix / LIST} is not there")
-    folders = [it for it in lines if it.endswith("/")]
-    try:
+    folders = [path for path in lines if path.endswith("/")]
+    with refusing("not all is removed"):
         shutil.rmtree(prefix / NEW, ignore_errors=True)
         # what Python keeps beside a module that was imported
-        for folder in (it for it in folders if it.startswith(OWN)):
-            shutil.rmtree(prefix / folder / "__pycache__", ignore_errors=True)
-        take_away(prefix, [it for it in lines if it not in folders and it != LIST])
+        for folder in folders:
+            if folder.startswith(OWN):
+                shutil.rmtree(prefix / folder / "__pycache__", ignore_errors=True)
+        take_away(prefix, [path for path in lines if path not in folders and path != LIST])
         take_away(prefix, [f"{LIST}.new", LIST])
-    except (OSError, KeyboardInterrupt) as fault:
-        raise Refused(f"{reason(fault)}; not all is removed") from None
     return leave(prefix, folders)
 
 
-def take_away(prefix, files):
+def take_away(prefix: Path, files: Iterable[str]) -> None:
     for path in files:
         (prefix / path).unlink(missing_ok=True)
 
 
-def leave(prefix, folders):
+def leave(prefix: Path, folders: Iterable[str]) -> list[Path]:
     """Removes those folders in which nothing is left, the lower ones first; answers those in which something is."""
     kept = []
-    for folder in sorted(folders, key=lambda it: (it != "./", it.count("/"), it), reverse=True):
+    for folder in sorted(folders, key=lambda name: (name != "./", name.count("/"), name), reverse=True):
         path = prefix / folder
         if path.is_dir():
             try:

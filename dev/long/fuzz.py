@@ -1,24 +1,24 @@
 """Sends sessions and journals to the program that nobody would write by hand, and judges every reply.
 
-    python3 -m dev.long.fuzz --sessions 1000 --lines 1000      a million lines; each session has a seed of its own, counted from --seed
+    python3 -m dev.long.fuzz --sessions 1000 --lines 1000      a million lines; seeds are counted from --seed
     python3 -m dev.long.fuzz --seed 17 --sessions 1            one session again
 
-Lines are good, or damaged in their bytes, tokens or members. The derivations that the program tells are sent back, good and
-damaged. What is answered, by one worker or by several, is judged by the plain readers of `tests/support`, which share nothing with the program. A session is
-sent twice, the second time with what the first one told, and saved; then its journal, what was learnt in it too, is damaged and
-loaded. Status 1 where
-anything is found; each find is told with its seed and its line.
+Lines are good, or damaged in their bytes, tokens or members. The derivations that the program tells are sent back, good
+and damaged. The plain readers of `tests/support`, which share nothing with the program, judge the replies of one worker
+or several. A session is sent twice, the second time with what the first one told, and saved; then its journal, also
+what was learnt, is damaged and loaded. Status 1 where anything is found; each find has its seed and its line.
 """
-import argparse
+from __future__ import annotations
+
 import functools
 import json
-import multiprocessing
 import os
 import random
 import sys
-import tempfile
-import time
+from collections.abc import Sequence
+from typing import Any
 
+from dev.runs import Run, demand, options, seed_tried
 from tests.support import program, said
 from tests.support.made_lines import NAMES, Maker
 from tests.support.plain_journal import first_fault
@@ -28,31 +28,23 @@ from tests.support.plain_session import PlainSession, Requirements
 KEPT_SETS = 128
 
 
-class Find(Exception):
-    """What is found."""
-
-
-def demand(holds, told):
-    if not holds:
-        raise Find(told)
-
-
-def run(lines, *words, workers=1):
+def run(lines: Sequence[bytes], *words: str, workers: int = 1) -> list[str]:
     """The reply lines of a session that ends well."""
     done = program.run(["serve", "--workers", str(workers), *words], b"".join(line + b"\n" for line in lines))
     demand((done.returncode, done.stderr) == (0, b""), f"a session ends with {done.returncode} {done.stderr[:300]}")
-    replies = done.stdout.decode().split("\n")
+    replies: list[str] = done.stdout.decode().split("\n")
     demand(replies.pop() == "" and len(replies) == len(lines), f"{len(lines)} lines have {len(replies)} replies")
     return replies
 
 
-def named_before():
-    """Publications that name so many requirements on each package that those of the session are beyond the ones whose sets are kept."""
-    return [{"op": "publish", "name": "y", "version": f"0.0.{number}", "needs": [[name, f"<9.{number}.0"] for name in NAMES]}
-            for number in range(KEPT_SETS)]
+def named_before() -> list[dict[str, Any]]:
+    """Publications that name so many requirements on each package that those of the session are beyond the ones whose
+    sets are kept."""
+    return [{"op": "publish", "name": "y", "version": f"0.0.{number}",
+             "needs": [[name, f"<9.{number}.0"] for name in NAMES]} for number in range(KEPT_SETS)]
 
 
-def first_lines(maker, count):
+def first_lines(maker: Maker, count: int) -> tuple[list[Any], list[bytes]]:
     """What a session begins with, a value or none for each line, and the lines."""
     values = named_before() if maker.rng.random() < 0.25 else []
     count += len(values)
@@ -60,49 +52,51 @@ def first_lines(maker, count):
         values.append(maker.value())
         if values[-1]["op"] == "resolve" and not values[-1].get("explain") and maker.rng.random() < 0.5:
             values.append({**values[-1], "explain": True})
-    return values, [maker.line(it) for it in values]
+    return values, [maker.line(value) for value in values]
 
 
-def told_again(maker, lines, replies):
-    """Lines that ask whether the derivations follow that were told, as they are, damaged, and with another value in one place."""
-    made = []
+def told_again(maker: Maker, lines: Sequence[bytes], replies: Sequence[str]) -> list[bytes]:
+    """Lines that ask whether the derivations follow that were told: as they are, damaged, and with another value in one
+    place."""
+    made: list[bytes] = []
     for line, reply in zip(lines, replies):
         if reply.startswith('{"derivation"'):
-            asked, told = json.loads(line.decode()), json.loads(reply)
-            check = {"op": "check", "needs": asked["needs"], "lock": asked.get("lock", []), "derivation": told["derivation"]}
+            asked, rows = json.loads(line.decode()), json.loads(reply)["derivation"]
+            check = {"op": "check", "needs": asked["needs"], "lock": asked.get("lock", []), "derivation": rows}
             made.append(json.dumps(check).encode())
-            made.append(maker.line({**check, "derivation": maker.other(told["derivation"])}))
-            made += [json.dumps({**check, "derivation": maker.near(told["derivation"])}).encode() for _ in range(6)]
+            made.append(maker.line({**check, "derivation": maker.other(rows)}))
+            made += [json.dumps({**check, "derivation": maker.near(rows)}).encode() for _ in range(6)]
             if maker.rng.random() < 0.01:
-                made.append(json.dumps({**check, "derivation": maker.repeated(told["derivation"])}).encode())
+                made.append(json.dumps({**check, "derivation": maker.repeated(rows)}).encode())
     return made
 
 
-def judged(lines, replies):
+def judged(lines: Sequence[bytes], replies: Sequence[str]) -> PlainSession:
     """The session once more; each reply is as it may be."""
     plain = PlainSession()
     for number, (line, reply) in enumerate(zip(lines, replies), 1):
         fault = plain.fault(line, reply)
-        demand(not fault, f"line {number}: {line[:3000]}\n answered {reply[:3000]}\n {fault}")
+        demand(not fault, f"line {number}: {line[:3000]!r}\n answered {reply[:3000]}\n {fault}")
     return plain
 
 
-def journal_text(form, accepted):
+def journal_text(form: int, accepted: Sequence[object]) -> bytes:
     rows = list(map(journal_line, accepted))
     return b"".join(row + b"\n" for row in [b"registry-journal %d" % form, *rows, b"end %d" % len(rows)])
 
 
-def saved_well(text, accepted):
+def saved_well(text: bytes, accepted: Sequence[object]) -> None:
     """What was saved has the accepted commands in their order, and else what was learnt."""
     lines = text.split(b"\n")
-    demand(lines[0] == b"registry-journal 2" and lines[-2:] == [b"end %d" % (len(lines) - 3), b""], f"a file is saved as {text[:300]}")
-    commands = [it for it in lines[1:-2] if not it.startswith(b'{"derivation"')]
+    has_form = lines[0] == b"registry-journal 2" and lines[-2:] == [b"end %d" % (len(lines) - 3), b""]
+    demand(has_form, f"a file is saved as {text[:300]!r}")
+    commands = [line for line in lines[1:-2] if not line.startswith(b'{"derivation"')]
     demand(commands == list(map(journal_line, accepted)), "other commands are saved than were accepted")
     fault = first_fault(text, Requirements())
-    demand(fault is None, f"line {fault} of what is saved is at fault:\n{text[:3000]}")
+    demand(fault is None, f"line {fault} of what is saved is at fault:\n{text[:3000]!r}")
 
 
-def damaged(maker, text):
+def damaged(maker: Maker, text: bytes) -> bytes:
     """A journal's text with a line or some bytes changed, or as it was."""
     lines, kind = text.split(b"\n"), maker.rng.random()
     place, other = maker.rng.randrange(len(lines)), maker.rng.randrange(len(lines))
@@ -119,8 +113,10 @@ def damaged(maker, text):
     elif kind < 0.6:
         lines[place] = lines[place].replace(b",", b", ", 1) + maker.rng.choice([b"", b"\r", b" "])
     elif kind < 0.7:
-        lines[-2:] = maker.rng.choice([lines[-2:] + text.split(b"\n"), [lines[-2].replace(b" ", b" 0"), b""], [lines[-2] + b"0", b""], [lines[-2]],
-                                       [lines[-2], b"", b""], [b"end -1", b""], [b"end 18446744073709551616", b""], [lines[-2].upper(), b""]])
+        end = lines[-2]
+        lines[-2:] = maker.rng.choice([
+            [end, b"", *text.split(b"\n")], [end.replace(b" ", b" 0"), b""], [end + b"0", b""], [end], [end, b"", b""],
+            [b"end -1", b""], [b"end 18446744073709551616", b""], [end.upper(), b""]])
     elif kind < 0.9:
         other_learnt(maker, lines)
     elif kind < 0.95:
@@ -128,7 +124,7 @@ def damaged(maker, text):
     return b"\n".join(lines)
 
 
-def other_learnt(maker, lines):
+def other_learnt(maker: Maker, lines: list[bytes]) -> None:
     """Changes what was learnt: the line of it, or where that stands."""
     learnt = [place for place, line in enumerate(lines) if line.startswith(b'{"derivation"')]
     if not learnt:
@@ -142,20 +138,21 @@ def other_learnt(maker, lines):
     lines[place] = journal_line({"derivation": changed, "op": "learn"})
 
 
-def journal_line(value):
+def journal_line(value: object) -> bytes:
     return json.dumps(value, sort_keys=True, separators=(",", ":")).encode()
 
 
-def loaded(maker, path, text):
+def loaded(maker: Maker, path: str, text: bytes) -> None:
     """A journal is loaded, or its first line at fault is told, as the plain reader has it."""
     with open(path, "wb") as out:
         out.write(text)
     fault, done = first_fault(text, Requirements()), program.run([*program.SERVE, "--load", path], b'{"op":"list"}\n')
     wanted = (0, b"") if fault is None else (1, b"registryd: journal line %d\n" % fault)
-    demand((done.returncode, done.stderr) == wanted, f"a journal is loaded with {done.returncode} {done.stderr}, wanted {wanted}:\n{text[:3000]}")
+    how = f"a journal is loaded with {done.returncode} {done.stderr}, wanted {wanted}"
+    demand((done.returncode, done.stderr) == wanted, f"{how}:\n{text[:3000]!r}")
 
 
-def session(seed, count, path):
+def session(seed: int, count: int, path: str) -> int:
     """One session and its journal; answers how many lines were judged."""
     maker = Maker(random.Random(seed))
     _, lines = first_lines(maker, count)
@@ -171,39 +168,25 @@ def session(seed, count, path):
     listed = run([b'{"op":"list"}'], "--load", path)
     demand(listed == [plain.registry.answer({"op": "list"}, ())], "what was saved is loaded otherwise")
     for _ in range(3):
-        loaded(maker, path, damaged(maker, journal_text(maker.rng.choice([1, 2]), plain.accepted[:maker.rng.choice([3, 30, 300])])))
+        form, most = maker.rng.choice([1, 2]), maker.rng.choice([3, 30, 300])
+        loaded(maker, path, damaged(maker, journal_text(form, plain.accepted[:most])))
     for _ in range(3):
         loaded(maker, path, damaged(maker, text))
     return len(every)
 
 
-def tried(seed, count):
+def tried(seed: int, count: int) -> tuple[Any, ...]:
     """How many lines were judged, and what was found, of one seed."""
-    with tempfile.TemporaryDirectory() as folder:
-        try:
-            return session(seed, count, os.path.join(folder, "journal")), None
-        except Find as find:
-            return 0, f"seed {seed}: {find}"
+    return seed_tried(seed, lambda folder: [session(seed, count, os.path.join(folder, "journal"))], [0])
 
 
-def main(words):
-    parser = argparse.ArgumentParser(description=__doc__, formatter_class=argparse.RawDescriptionHelpFormatter)
-    for word, usual in (("--seed", 1), ("--sessions", 20), ("--lines", 1000), ("--jobs", os.cpu_count())):
-        parser.add_argument(word, type=int, default=usual)
-    parser.add_argument("--program", default=program.PROGRAM)
-    given = parser.parse_args(words)
-    program.PROGRAM = given.program
+def main(words: Sequence[str]) -> int:
+    chosen = options(__doc__, words, sessions=20, lines=1000)
     said.is_noting = False
-    began, lines, finds = time.monotonic(), 0, 0
-    with multiprocessing.get_context("fork").Pool(given.jobs) as pool:
-        seeds = range(given.seed, given.seed + given.sessions)
-        for judged_lines, find in pool.imap_unordered(functools.partial(tried, count=given.lines), seeds):
-            lines += judged_lines
-            if find:
-                finds += 1
-                print(find, flush=True)
-    print(f"{lines:,} lines in {time.monotonic() - began:.0f} s; {finds} finds")
-    return int(finds > 0)
+    run = Run(chosen.jobs)
+    seeds = range(chosen.seed, chosen.seed + chosen.sessions)
+    lines, = run.totals(functools.partial(tried, count=chosen.lines), seeds)
+    return run.end(f"{lines:,} lines")
 
 
 if __name__ == "__main__":

@@ -1,17 +1,18 @@
-"""Runs races of files that nobody would write by hand, under schedules of all kinds, and judges what each of them prints.
+"""Runs races of files that nobody would write by hand, under schedules of all kinds, and judges what each of them
+prints.
 
-    python3 -m dev.long.race_many --races 10000      so many races; each has a seed of its own, counted from --seed
+    python3 -m dev.long.race_many --races 10000      so many races; seeds are counted from --seed
     python3 -m dev.long.race_many --seed 17          one race again: the same files and pauses, if not the same schedule
 
-A race has 2 to 8 files, of one to forty lines each, that ask for the same packages. It runs on one processor, on two or on four;
-its threads pause at random where they ask for memory, and the whole program is stopped and goes on again at random times. The
-printed journal is replayed by plain readers: each accepted command stands in it once, after all that its seat had seen, and each
-reply is right at its place. Status 1 where anything is found; each find is told with its seed.
+A race has 2 to 8 files, of one to forty lines each, that ask for the same packages. It runs on one processor, on two or
+on four; its threads pause at random where they ask for memory, and the whole program is stopped and goes on again at
+random times. Plain readers replay the printed journal: each accepted command stands in it once, after all that its seat
+had seen, and each reply is right at its place. Status 1 where anything is found; each find is told with its seed.
 """
-import argparse
+from __future__ import annotations
+
 import functools
 import json
-import multiprocessing
 import os
 import random
 import signal
@@ -19,7 +20,10 @@ import subprocess
 import sys
 import tempfile
 import time
+from collections.abc import Sequence
+from typing import Any
 
+from dev.runs import Run, options, seed_tried
 from registry_cli import tied
 from tests.support import plain_race, program
 from tests.support.made_lines import Maker
@@ -30,37 +34,40 @@ RIVALS = ["foo", "bar", "baz"]
 LIMIT = 100  # seconds of a race
 
 
-def library(folder):
+def library(folder: str) -> str:
     """The library in whose presence threads pause, built in a folder."""
     path = os.path.join(folder, "pause.so")
     subprocess.run(["cc", "-O1", "-shared", "-fPIC", "-o", path, SOURCE], check=True)
     return path
 
 
-def files_of(rng):
+def files_of(rng: random.Random) -> list[list[bytes]]:
     """The lines of each file of a race: most of them commands, some of them damaged."""
     maker, most = Maker(rng), rng.choice([1, 5, 15, 40])
     return [[made(maker) for _ in range(rng.randint(1, most))] for _ in range(rng.randint(2, 8))]
 
 
-def made(maker):
+def made(maker: Maker) -> bytes:
     if maker.rng.random() < 0.3:
         return json.dumps(contended(maker.rng)).encode()
     value = maker.command() if maker.rng.random() < 0.4 else maker.value()
-    return maker.plain_line(value) if maker.rng.random() < 0.9 else maker.line(value)
+    line: bytes = maker.plain_line(value) if maker.rng.random() < 0.9 else maker.line(value)
+    return line
 
 
-def contended(rng):
-    """A publication or a request of three packages that need each other, so that requests lead to conflicts, from which is learnt."""
+def contended(rng: random.Random) -> dict[str, Any]:
+    """A publication or a request of three packages that need each other, so that requests lead to conflicts, from which
+    is learnt."""
     name, *others = rng.sample(RIVALS, 3)
     versions = [f"{number}.0.0" for number in range(1, 6)]
     if rng.random() < 0.65:
         needs = [[other, "^" + rng.choice(versions)] for other in others[:rng.choice([0, 1, 1, 2])]]
         return {"op": "publish", "name": name, "version": rng.choice(versions), "needs": needs}
-    return {"op": "resolve", "needs": [[it, ">=" + rng.choice(versions[:2])] for it in [name, *others][:rng.choice([1, 1, 2])]]}
+    asked = [name, *others][:rng.choice([1, 1, 2])]
+    return {"op": "resolve", "needs": [[package, ">=" + rng.choice(versions[:2])] for package in asked]}
 
 
-def stop_at_times(rng, running):
+def stop_at_times(rng: random.Random, running: tied.Tied) -> None:
     """Stops a program and lets it go on, a few times while it runs."""
     for _ in range(rng.randint(1, 4)):
         time.sleep(rng.random() * 0.004)
@@ -71,7 +78,7 @@ def stop_at_times(rng, running):
         running.send_signal(signal.SIGCONT)
 
 
-def run(rng, pausing, paths):
+def run(rng: random.Random, pausing: str, paths: Sequence[str]) -> tuple[int, bytes, bytes]:
     """What a race of these files left: its status, what it printed, and what it told on standard error."""
     everywhere = os.sched_getaffinity(0)
     env = {**os.environ, "PAUSE_SEED": str(rng.randrange(1, 2 ** 32)), "PAUSE_ONE_IN": str(rng.choice([3, 20, 200]))}
@@ -94,45 +101,32 @@ def run(rng, pausing, paths):
     return running.returncode, printed, told
 
 
-def race(seed, pausing):
+def race(seed: int, pausing: str, folder: str) -> tuple[int, int]:
     """One race, judged; answers how many lines and entries it had."""
     rng = random.Random(f"race {seed}")
     files = files_of(rng)
-    with tempfile.TemporaryDirectory() as folder:
-        paths = [os.path.join(folder, str(number)) for number in range(len(files))]
-        for path, lines in zip(paths, files):
-            with open(path, "wb") as out:
-                out.writelines(line + b"\n" for line in lines)
-        status, printed, told = run(rng, pausing, paths)
-    plain_race.demand((status, told) == (0, b""), f"a race ends with {status} {told[:300]}")
+    paths = [os.path.join(folder, str(number)) for number in range(len(files))]
+    for path, lines in zip(paths, files):
+        with open(path, "wb") as out:
+            out.writelines(line + b"\n" for line in lines)
+    status, printed, told = run(rng, pausing, paths)
+    plain_race.demand((status, told) == (0, b""), f"a race ends with {status} {told[:300]!r}")
     return sum(map(len, files)), plain_race.judge(files, printed.decode())
 
 
-def tried(seed, pausing):
+def tried(seed: int, pausing: str) -> tuple[Any, ...]:
     """How many lines and entries a race had, and what was found."""
-    try:
-        return *race(seed, pausing), None
-    except (plain_race.RaceFault, subprocess.TimeoutExpired) as find:
-        return 0, 0, f"seed {seed}: {find}"
+    faults = plain_race.RaceFault, subprocess.TimeoutExpired
+    return seed_tried(seed, lambda folder: race(seed, pausing, folder), [0, 0], faults)
 
 
-def main(words):
-    parser = argparse.ArgumentParser(description=__doc__, formatter_class=argparse.RawDescriptionHelpFormatter)
-    for word, usual in (("--seed", 1), ("--races", 1), ("--jobs", os.cpu_count())):
-        parser.add_argument(word, type=int, default=usual)
-    parser.add_argument("--program", default=program.PROGRAM)
-    given = parser.parse_args(words)
-    program.PROGRAM = given.program
-    began, lines, entries, finds = time.monotonic(), 0, 0, 0
-    with tempfile.TemporaryDirectory() as folder, multiprocessing.get_context("fork").Pool(given.jobs) as pool:
-        seeds = range(given.seed, given.seed + given.races)
-        for asked, entered, find in pool.imap_unordered(functools.partial(tried, pausing=library(folder)), seeds):
-            lines, entries = lines + asked, entries + entered
-            if find:
-                finds += 1
-                print(find, flush=True)
-    print(f"{given.races:,} races of {lines:,} lines, {entries:,} entries, in {time.monotonic() - began:.0f} s; {finds} finds")
-    return int(finds > 0)
+def main(words: Sequence[str]) -> int:
+    chosen = options(__doc__, words, races=1)
+    run = Run(chosen.jobs)
+    with tempfile.TemporaryDirectory() as folder:
+        seeds = range(chosen.seed, chosen.seed + chosen.races)
+        lines, entries = run.totals(functools.partial(tried, pausing=library(folder)), seeds)
+    return run.end(f"{chosen.races:,} races of {lines:,} lines, {entries:,} entries,")
 
 
 if __name__ == "__main__":

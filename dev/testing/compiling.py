@@ -1,6 +1,8 @@
 """Compiles programs side by side while something else is done."""
-import os
+from __future__ import annotations
+
 import subprocess
+from collections.abc import Sequence
 
 from dev.building import programs
 from dev.building.progress import TOP, Counter
@@ -13,42 +15,27 @@ TESTED = ("registryd", "probe", LIBRARY)
 class Builds:
     """Builds of programs; what they still do is ended with this."""
 
-    def __init__(self, names):
-        words = [os.path.join(TOP, "tools", "build"), "--compiled"]
+    def __init__(self, names: Sequence[str]) -> None:
         self.failed, self.counter = False, Counter(f"test: compiling {' and '.join(names)}", programs.SECONDS)
-        self.running = [subprocess.Popen([*words, name], stdout=subprocess.DEVNULL, stderr=subprocess.PIPE, text=True) for name in names]
+        self.running = [subprocess.Popen([TOP / "tools" / "build", "--compiled", name], stdout=subprocess.DEVNULL,
+                                         stderr=subprocess.PIPE, text=True) for name in names]
 
-    def __enter__(self):
+    def __enter__(self) -> Builds:
         return self
 
-    def __exit__(self, *_):
+    def __exit__(self, *_: object) -> None:
         for build in self.running:
             build.terminate()
             build.communicate()
         self.counter.end()
 
-    def left(self):
+    def left(self) -> int:
         """How many go on; what those say that have ended is shown."""
         for build in [build for build in self.running if build.poll() is not None]:
             self.running.remove(build)
-            self.clear()
+            self.counter.clear()
             print(build.communicate()[1], end="", flush=True)
             self.failed = self.failed or build.returncode != 0
         if not self.running:
             self.counter.end()
         return len(self.running)
-
-    def clear(self):
-        """Takes the line away that says how far they are."""
-        self.counter.clear()
-
-
-class Nothing:
-    """No builds."""
-    failed = False
-
-    def left(self):
-        return 0
-
-
-NOTHING = Nothing()

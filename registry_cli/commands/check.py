@@ -8,7 +8,7 @@ from registryd_lines.fault import placed
 from registryd_lines.judging import faults
 
 from .. import TYPE_CHECKING
-from ..failures import DONE, REFUSED, Failed, told
+from ..failures import DONE, REFUSED, Failed, one_line
 from ..limits import MOST_LINE_BYTES
 
 if TYPE_CHECKING:
@@ -18,14 +18,14 @@ if TYPE_CHECKING:
     from registryd_lines.fault import Fault
 
     from ..output import Output
-    from ..shapes import Given
+    from ..shapes import Options
 
 
-def run(given: Given, out: Output) -> int:
-    name = "<stdin>" if given.file == "-" else given.file
+def run(options: Options, out: Output) -> int:
+    name = "<stdin>" if options.file == "-" else options.file
     found: list[dict[str, object]] = []
     wrong, count = 0, 0
-    for count, line in enumerate(lines_of(given.file), 1):
+    for count, line in enumerate(lines_of(options.file), 1):
         of_line = faults(line)
         wrong += bool(of_line)
         for it in of_line:
@@ -51,7 +51,7 @@ def lines_of(path: str) -> Iterator[bytes]:
                     rest = file.readline(MOST_LINE_BYTES)
                 yield line.removesuffix(b"\n")
     except OSError as fault:
-        raise Failed(told(fault)) from None
+        raise Failed(one_line(fault)) from None
 
 
 def as_json(line: int, fault: Fault) -> dict[str, object]:

@@ -7,11 +7,11 @@ from ..locks import changed, changes, coloured, counted, lock_of
 
 if TYPE_CHECKING:
     from ..output import Output
-    from ..shapes import Given
+    from ..shapes import Options
 
 
-def run(given: Given, out: Output) -> int | None:
-    old, new = lock_of(given.old).selected, lock_of(given.new).selected
+def run(options: Options, out: Output) -> int | None:
+    old, new = lock_of(options.old).selected, lock_of(options.new).selected
     lines = changes(old, new)
     out.give(changed(old, new), [*coloured(lines, out), counted(lines)])
-    return REFUSED if lines and given.exit_status else None
+    return REFUSED if lines and options.exit_status else None

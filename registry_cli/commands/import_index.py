@@ -25,55 +25,55 @@ if TYPE_CHECKING:
 
     from ..indexes.index import Dependency, Index
     from ..output import Output
-    from ..shapes import Given, Pairs, Reply, Request
+    from ..shapes import Options, Pairs, Reply, Request
     from ..shelf import Chosen
 
 THERE_ALREADY = (7, 12)  # it is published, or yanked, already
 
 
-def run(given: Given, out: Output) -> int | None:
-    if given.ask and not given.lines:
+def run(options: Options, out: Output) -> int | None:
+    if options.ask and not options.lines:
         raise Usage("--ask needs --lines: `registry resolve` asks the registry")
-    lock_file = getattr(given, "write", None)
+    lock_file = getattr(options, "write", None)
     with busy("reading the index"):
-        index = opened(given)
-        needs = roots(index, getattr(given, "from"))
-        locked = index.locked() if given.ask or lock_file else []
-        asked = request(index, needs, locked) if given.ask else None
+        index = opened(options)
+        needs = roots(index, getattr(options, "from"))
+        locked = index.locked() if options.ask or lock_file else []
+        asked = request(index, needs, locked) if options.ask else None
         shelf = Shelf(index)
-        chosen, most = choose(shelf, [name for name, _ in needs] or index.names(), given.newest or MOST_VERSIONS)
+        chosen, most = choose(shelf, [name for name, _ in needs] or index.names(), options.newest or MOST_VERSIONS)
     commands = list(commands_of(chosen))
-    if given.lines:
+    if options.lines:
         for it in [*commands, *([asked] if asked else [])]:
             print(json.dumps(it, separators=(",", ":")))
         sys.stdout.flush()
         aside(f"written: {counted(chosen)}", *noted(shelf, chosen, most, index.notes))
         return None
-    status = published(given, commands, chosen, noted(shelf, chosen, most, index.notes), out)
+    status = published(options, commands, chosen, noted(shelf, chosen, most, index.notes), out)
     if lock_file:
         keep(lock_file, locked, needs, out)
     return status
 
 
-def opened(given: Given) -> Index:
+def opened(options: Options) -> Index:
     """The reader of the index that is named."""
-    if given.subcommand == "import crates-io":
-        return CratesIo(given.dir)
-    if given.subcommand == "import cargo":
-        return Cargo(given.dir, CratesIo(given.index) if given.index else None)
-    if not given.file:
+    if options.subcommand == "import crates-io":
+        return CratesIo(options.dir)
+    if options.subcommand == "import cargo":
+        return Cargo(options.dir, CratesIo(options.index) if options.index else None)
+    if not options.file:
         return Debian(Debian.of_this_machine())
-    return Debian(read_bounded(given.file).decode(errors="replace").replace("\r\n", "\n"))
+    return Debian(read_bounded(options.file).decode(errors="replace").replace("\r\n", "\n"))
 
 
-def published(given: Given, commands: Sequence[Request], chosen: Chosen, notes: Sequence[str],
+def published(options: Options, commands: Sequence[Request], chosen: Chosen, notes: Sequence[str],
               out: Output) -> int | None:
     """Sends the commands, and says what became of them."""
     reply: Reply = {"revision": 0}
     refused: dict[str, list[str]] = {}
     accepted, there, bar = 0, 0, Bar("importing", len(commands))
-    with writing(given) as session:
-        if not given.both_spellings:
+    with writing(options) as session:
+        if not options.both_spellings:
             refuse_spellings(other_spellings(chosen, listed(session)))
         for command, reply in zip(commands, session.each(commands)):
             bar.step()
@@ -86,7 +86,7 @@ def published(given: Given, commands: Sequence[Request], chosen: Chosen, notes: 
     bar.end()
     told = [*notes, *([f"skipped: commands that were carried out before: {there}"] if there else []),
             *(f"refused: {why}: {len(names)} (first: {names[0]})" for why, names in refused.items())]
-    with reading(given) as session:
+    with reading(options) as session:
         alone = Alone(session, [name for name, releases in chosen.items() if releases])
     out.give({"accepted": accepted, "passed_over": there, "refused": sum(map(len, refused.values())),
               "revision": reply["revision"], "notes": told, "alone": alone.value()},

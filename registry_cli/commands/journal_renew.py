@@ -3,10 +3,11 @@ from __future__ import annotations
 
 from .. import TYPE_CHECKING, near_limits
 from ..bar import Bar
+from ..catalog import line_of
 from ..failures import Failed, Refused
 from ..journal_file import CUT, FAULTY, Over, fault_line, journal_text, read_journal, refuse_existing, write_new
 from ..locks import lock_of
-from ..renewal import Lock, commands_of, line_of, needed, newest, releases_of
+from ..renewal import Lock, commands_of, needed, newest, releases_of
 
 if TYPE_CHECKING:
     from collections.abc import Collection, Iterator, Mapping, Sequence
@@ -16,7 +17,7 @@ if TYPE_CHECKING:
     from ..output import Output
     from ..renewal import Key, Releases
 
-    class Given(Protocol):
+    class Options(Protocol):
         """The words of this subcommand, whose --lock takes many."""
         old: str
         new: str
@@ -27,30 +28,30 @@ NEWEST = 3
 MOST_TOLD = 20
 
 
-def run(given: Given, out: Output) -> None:
-    old = read_journal(given.old)
+def run(options: Options, out: Output) -> None:
+    old = read_journal(options.old)
     if old.state == FAULTY:
-        remedy = f"`registry journal repair {given.old}` keeps what is before it"
-        raise Refused(f"{given.old}: line {old.line} is at fault: {remedy}")
-    refuse_existing(given.new)
+        remedy = f"`registry journal repair {options.old}` keeps what is before it"
+        raise Refused(f"{options.old}: line {old.line} is at fault: {remedy}")
+    refuse_existing(options.new)
     if old.state == CUT:
-        out.note(f"{given.old} has no end line: what a session adds from now on is not copied")
+        out.note(f"{options.old} has no end line: what a session adds from now on is not copied")
     releases = releases_of(old.commands())
-    most = NEWEST if given.newest is None else given.newest
-    locks = [Lock(path, lock_of(path).selected, releases) for path in given.lock or []]
+    most = NEWEST if options.newest is None else options.newest
+    locks = [Lock(path, lock_of(path).selected, releases) for path in options.lock or []]
     for lock in locks:
         for name in lock.missing:
             out.note(f"{lock.path} names a version of {name} that is not published")
-    kept = chosen(given.old, old, releases, locks, most)
+    kept = chosen(options.old, old, releases, locks, most)
     commands = list(commands_of(releases, kept))
     text = journal_text([line_of(it) for it in commands])
-    checked(given.new, text, locks)
-    write_new(given.new, text, given.old)
+    checked(options.new, text, locks)
+    write_new(options.new, text, options.old)
     left = left_out(releases, kept)
     selected = {it.path: it.is_selected for it in locks}
-    out.give({"written": given.new, "revision": len(commands), "locks": selected, "left_out": left,
-              "learnt_left_out": old.learnt}, in_words(given.new, old, commands, releases, locks, left))
-    near_limits.warn(given.new, text)
+    out.give({"written": options.new, "revision": len(commands), "locks": selected, "left_out": left,
+              "learnt_left_out": old.learnt}, in_words(options.new, old, commands, releases, locks, left))
+    near_limits.warn(options.new, text)
 
 
 def chosen(path: str, old: Journal, releases: Releases, locks: Sequence[Lock], most: int) -> set[Key]:
@@ -96,12 +97,12 @@ def in_words(path: str, old: Journal, commands: Sequence[object], releases: Rele
     for name, _ in releases:
         versions[name] = versions.get(name, 0) + 1
     for name in list(left)[:MOST_TOLD]:
-        yield f"  {name}: {told(left[name], versions[name])}"
+        yield f"  {name}: {in_short(left[name], versions[name])}"
     if len(left) > MOST_TOLD:
         yield f"  and versions of {len(left) - MOST_TOLD:,} packages more (--json tells all)"
 
 
-def told(left: Sequence[str], count: int) -> str:
+def in_short(left: Sequence[str], count: int) -> str:
     """The versions of a package that are left out, of many the first and the last."""
     named = ", ".join(left) if len(left) <= 3 else f"{left[0]} to {left[-1]}, {len(left)} of {count} versions"
     return named + (": none is kept" if len(left) == count else "")

@@ -14,14 +14,14 @@ if TYPE_CHECKING:
 
     from ..journal_file import Journal
     from ..output import Output
-    from ..shapes import Given
+    from ..shapes import Options
 
 MOST_TOLD, MOST_SHOWN = 10, 200
 
 
-def run(given: Given, out: Output) -> None:
-    path, journal = given.file, read_journal(given.file)
-    new = given.output or f"{path}.repaired"
+def run(options: Options, out: Output) -> None:
+    path, journal = options.file, read_journal(options.file)
+    new = options.output or f"{path}.repaired"
     if not journal.line:
         whole = f"{path} is whole: there is nothing to repair"
         out.give({"file": path, "state": journal.state, "written": None}, [whole])

@@ -10,11 +10,11 @@ if TYPE_CHECKING:
 
     from ..journal_file import Journal
     from ..output import Output
-    from ..shapes import Given
+    from ..shapes import Options
 
 
-def run(given: Given, out: Output) -> int | None:
-    journal, path = read_journal(given.file), given.file
+def run(options: Options, out: Output) -> int | None:
+    journal, path = read_journal(options.file), options.file
     reason = None
     if journal.state == FAULTY:
         from ..journal_faults import why

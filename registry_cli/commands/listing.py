@@ -12,7 +12,7 @@ if TYPE_CHECKING:
 
     from .. import shapes
     from ..output import Output
-    from ..shapes import Given, Listed
+    from ..shapes import Listed, Options
 
 
 class Row(namedtuple("Row", "name newest versions yanked")):
@@ -23,9 +23,9 @@ class Row(namedtuple("Row", "name newest versions yanked")):
     yanked: int
 
 
-def run(given: Given, out: Output) -> int | None:
-    text = getattr(given, "text", "")
-    with reading(given) as session:
+def run(options: Options, out: Output) -> int | None:
+    text = getattr(options, "text", "")
+    with reading(options) as session:
         packages = packages_of(session)
         names = list(packages)
         rows = [row(name, packages[name]) for name in sorted(names) if text.lower() in name]

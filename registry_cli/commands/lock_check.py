@@ -17,14 +17,14 @@ if TYPE_CHECKING:
 
     from ..check_derivation import Registry
     from ..output import Output
-    from ..shapes import Given, Listed, Request
+    from ..shapes import Listed, Options, Request
 
 
-def run(given: Given, out: Output) -> int | None:
-    path, lock, needs = given.file, lock_of(given.file).selected, needs_known(given.need, given.file)
+def run(options: Options, out: Output) -> int | None:
+    path, lock, needs = options.file, lock_of(options.file).selected, needs_known(options.need, options.file)
     # the program says whether these are needs
     judged: Request = {"op": "check", "needs": needs or [], "derivation": []}
-    with reading(given) as session:
+    with reading(options) as session:
         accepted(session, judged, *session.ask(judged))
         packages, registry = listed(session), registry_in(catalog_of(session.journal()), lock)
     found = list(faults(lock, needs or [], registry, packages))

@@ -15,7 +15,7 @@ from ..session import journal_of, service_of, snapshot
 
 if TYPE_CHECKING:
     from ..output import Output
-    from ..shapes import Given, Request
+    from ..shapes import Options, Request
 
 PAUSE = 0.5  # seconds between two looks
 
@@ -55,15 +55,15 @@ class Service:
         return [(at.decode(), line) for _, at, line in (it.split(b" ", 2) for it in text.splitlines())]
 
 
-def run(given: Given, out: Output) -> None:
-    service, revision = service_of(given), given.after or 0
-    source: File | Service = Service(service) if service else File(journal_of(given))
+def run(options: Options, out: Output) -> None:
+    service, revision = service_of(options), options.after or 0
+    source: File | Service = Service(service) if service else File(journal_of(options))
     while True:
         for at, line in source.after(revision):
             revision += 1
             tell(revision, at, json.loads(line), out)
         sys.stdout.flush()
-        if not given.follow:
+        if not options.follow:
             return
         time.sleep(PAUSE)
 

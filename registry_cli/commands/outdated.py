@@ -22,7 +22,7 @@ if TYPE_CHECKING:
     from ..check_derivation import Registry
     from ..derivation import Derivation, Fact
     from ..output import Output
-    from ..shapes import Given, Listed, Reading, Reply, Request
+    from ..shapes import Listed, Options, Reading, Reply, Request
 
 BUDGET = 10_000  # conflicts of each question what holds a version back
 MOST_TOLD = 2
@@ -41,19 +41,19 @@ class Row(namedtuple("Row", "name locked state allowed newest held_back_by")):
 HEADS = Row("package", "locked", "", "allowed", "newest", "held back by")
 
 
-def run(given: Given, out: Output) -> int | None:
-    path = given.lock or DEFAULT
+def run(options: Options, out: Output) -> int | None:
+    path = options.lock or DEFAULT
     lock = lock_of(path).selected
-    request = request_of(given, {})
-    with reading(given) as session:
+    request = request_of(options, {})
+    with reading(options) as session:
         reply = answered(session, request)
         if "selected" not in reply:
             return refused(session, request, reply, out)
-        rows = outdated(session, lock, request, reply, listed(session), given.budget or BUDGET)
+        rows = outdated(session, lock, request, reply, listed(session), options.budget or BUDGET)
     out.give([it._asdict() for it in rows], lines(rows, out))
     if not rows:
         out.note(f"everything in {path} is the newest version")
-    return REFUSED if rows and given.exit_status else None
+    return REFUSED if rows and options.exit_status else None
 
 
 def outdated(session: Reading, lock: Mapping[str, str], request: Request, reply: Reply,

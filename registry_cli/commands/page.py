@@ -11,21 +11,21 @@ from ..session import journal_of, service_of
 if TYPE_CHECKING:
     from ..output import Output
     from ..page.journal import Source
-    from ..shapes import Given
+    from ..shapes import Options
 
 SECONDS = 10  # that a search may take
 
 
-def run(given: Given, out: Output) -> None:
-    service = service_of(given)
-    source: Source = File(journal_of(given))
+def run(options: Options, out: Output) -> None:
+    service = service_of(options)
+    source: Source = File(journal_of(options))
     if service:
         source = Service(service)
-    journal = Journal(source, given.seconds or SECONDS)
+    journal = Journal(source, options.seconds or SECONDS)
     try:
         for it in journal.view.warnings:
             out.note(it)
-        with Server(journal, given.port or 0) as server:
+        with Server(journal, options.port or 0) as server:
             out.give({"address": server.address, "port": server.port}, [server.address])
             if not out.is_json:
                 out.note(f"{journal.path} is shown there, to this machine only; Ctrl-C ends it")

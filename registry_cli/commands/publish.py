@@ -11,13 +11,14 @@ if TYPE_CHECKING:
     from ..shapes import Named, Request
 
 
-def run(given: Named, out: Output) -> None:
-    command: Request = {"op": "publish", "name": given.name, "version": given.version, "needs": needs_of(given.need)}
-    with writing(given) as session:
+def run(options: Named, out: Output) -> None:
+    needs = needs_of(options.need)
+    command: Request = {"op": "publish", "name": options.name, "version": options.version, "needs": needs}
+    with writing(options) as session:
         (reply,) = session.ask(command)
         accepted(session, command, reply)
-        out.give(reply, [f"published {given.name} {given.version} (revision {reply['revision']})"])
-        packages = listed(session) if command["needs"] else {}
-    for name, _ in command["needs"]:
+        out.give(reply, [f"published {options.name} {options.version} (revision {reply['revision']})"])
+        packages = listed(session) if needs else {}
+    for name, _ in needs:
         if name not in packages:
             out.note(f"so far {unpublished(name, packages)}")

@@ -17,30 +17,30 @@ if TYPE_CHECKING:
 
     from ..locks import Lock
     from ..output import Output
-    from ..shapes import Given, Reply, Request
+    from ..shapes import Options, Reply, Request
 
 
-def run(given: Given, out: Output) -> int | None:
-    if given.locked:
-        given.lock = given.lock or DEFAULT
-        if not os.path.lexists(given.lock):
-            remedy = f"`registry resolve NEED .. --write {given.lock}` does"
-            raise Refused(f"{given.lock}: there is no such lock file, and --locked makes none: {remedy}")
-    request = request_of(given)
-    before = lock_of(given.write) if given.write and os.path.exists(given.write) else None
-    with reading(given) as session:
+def run(options: Options, out: Output) -> int | None:
+    if options.locked:
+        options.lock = options.lock or DEFAULT
+        if not os.path.lexists(options.lock):
+            remedy = f"`registry resolve NEED .. --write {options.lock}` does"
+            raise Refused(f"{options.lock}: there is no such lock file, and --locked makes none: {remedy}")
+    request = request_of(options)
+    before = lock_of(options.write) if options.write and os.path.exists(options.write) else None
+    with reading(options) as session:
         reply = answered(session, request)
-        if given.lock:
+        if options.lock:
             from ..refusals import listed
-            for it in lock_notes(given.lock, dict(request["lock"]), listed(session)):
+            for it in lock_notes(options.lock, dict(request["lock"]), listed(session)):
                 out.note(it)
         if "selected" not in reply:
             return refused(session, request, reply, out)
-    if given.locked and given.lock:
-        keep_to(given.lock, dict(request["lock"]), dict(reply["selected"]))
+    if options.locked and options.lock:
+        keep_to(options.lock, dict(request["lock"]), dict(reply["selected"]))
     out.give(reply, [f"{out.style(name, 'bold')} {version}" for name, version in reply["selected"]])
-    if given.write:
-        keep(given.write, before, request, reply, out)
+    if options.write:
+        keep(options.write, before, request, reply, out)
     return None
 
 

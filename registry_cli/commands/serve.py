@@ -15,24 +15,24 @@ if TYPE_CHECKING:
     from ..shapes import Served
 
 
-def run(given: Served, out: Output) -> int | None:
-    if not given.socket and given.port is None:
+def run(options: Served, out: Output) -> int | None:
+    if not options.socket and options.port is None:
         raise Usage("a service listens on --socket PATH, on --port N, or on both")
-    if given.connect:
+    if options.connect:
         raise Usage("a service keeps a journal itself: --journal FILE names it, and --connect is for those who ask it")
-    if given.group and not given.socket:
+    if options.group and not options.socket:
         raise Usage("--group needs --socket")
-    return asyncio.run(serve(journal_of(given), given, out))
+    return asyncio.run(serve(journal_of(options), options, out))
 
 
-async def serve(path: str, given: Served, out: Output) -> int | None:
+async def serve(path: str, options: Served, out: Output) -> int | None:
     """The exit status of a service."""
-    service = Service(path, given)
+    service = Service(path, options)
     with service.left:
         await service.begin()
         addresses = (server.sockets[0].getsockname() for server in service.servers)
         names = [it if isinstance(it, str) else "{}:{}".format(*it) for it in addresses]
-        where = names[:len(names) - (given.metrics_port is not None)]
+        where = names[:len(names) - (options.metrics_port is not None)]
         out.give({"listening": where[0], "also": where[1:], "revision": service.keeper.revision},
                  [f"{path} is served at {' and '.join(where)} (revision {service.keeper.revision})"])
         await show(service, where[0], out)

@@ -6,8 +6,8 @@ from ..session import journal_of, patience_of, service_of
 
 if TYPE_CHECKING:
     from ..output import Output
-    from ..shapes import Given
+    from ..shapes import Options
 
 
-def run(given: Given, out: Output) -> int:
-    return shell.run(journal_of(given), service_of(given), patience_of(given))
+def run(options: Options, out: Output) -> int:
+    return shell.run(journal_of(options), service_of(options), patience_of(options))

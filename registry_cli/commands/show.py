@@ -12,28 +12,28 @@ if TYPE_CHECKING:
     from ..shapes import Named
 
 
-def run(given: Named, out: Output) -> None:
-    with reading(given) as session:
+def run(options: Named, out: Output) -> None:
+    with reading(options) as session:
         from ..catalog import catalog_of
         catalog = catalog_of(session.journal())
-        versions, newest = catalog.versions(given.name), catalog.newest(given.name)
-        told_of = catalog.version(given.name, given.version) if given.version else newest
-        needing = list(catalog.needing(given.name))
-    out.give({"name": given.name,
+        versions, newest = catalog.versions(options.name), catalog.newest(options.name)
+        shown = catalog.version(options.name, options.version) if options.version else newest
+        needing = list(catalog.needing(options.name))
+    out.give({"name": options.name,
               "versions": [{"version": it.text, "yanked": it.is_yanked, "needs": it.needs} for it in versions],
               "newest": newest.text,
               "needed_by": [{"name": name, "version": version, "requirement": requirement}
                             for name, version, requirement in needing]},
-             told(given.name, versions, told_of, needing, out))
+             in_words(options.name, versions, shown, needing, out))
 
 
-def told(name: str, versions: Iterable[Version], told_of: Version, needing: Sequence[tuple[str, str, str]],
-         out: Output) -> Iterator[str]:
+def in_words(name: str, versions: Iterable[Version], shown: Version, needing: Sequence[tuple[str, str, str]],
+             out: Output) -> Iterator[str]:
     yield out.style(name, "bold")
     for it in versions:
         yield f"  {it.text}" + (out.style("  yanked", "yellow") if it.is_yanked else "")
-    yield out.style(f"{told_of.text} needs", "bold") + ("" if told_of.needs else " nothing")
-    for target, requirement in told_of.needs:
+    yield out.style(f"{shown.text} needs", "bold") + ("" if shown.needs else " nothing")
+    for target, requirement in shown.needs:
         yield f"  {target} {requirement}"
     yield out.style("needed by", "bold") + ("" if needing else " nothing")
     for other, version, requirement in needing:

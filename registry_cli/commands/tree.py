@@ -16,15 +16,15 @@ if TYPE_CHECKING:
     from collections.abc import Callable, Iterator, Mapping, Sequence
 
     from ..output import Output
-    from ..shapes import Given
+    from ..shapes import Options
 
 UTF8 = {"tee": "├── ", "corner": "└── ", "down": "│   ", "none": "    "}
 ASCII = {"tee": "|-- ", "corner": "`-- ", "down": "|   ", "none": "    "}
 
 
-def run(given: Given, out: Output) -> int | None:
-    request = request_of(given)
-    with reading(given) as session:
+def run(options: Options, out: Output) -> int | None:
+    request = request_of(options)
+    with reading(options) as session:
         reply = answered(session, request)
         if "selected" not in reply:
             return refused(session, request, reply, out)
@@ -32,14 +32,14 @@ def run(given: Given, out: Output) -> int | None:
         needs = needs_of(session, selected)
     below = {name: sorted(dict(needs[name])) for name in selected}
     roots = [name for name, _ in request["needs"]]
-    if given.invert:
-        if given.invert not in selected:
-            near = nearest(need_of(given.invert)[0], selected)
-            raise Refused(f"{given.invert} is not selected" + (f"; did you mean {near}?" if near else ""))
-        roots, below = [given.invert], inverted(below)
+    if options.invert:
+        if options.invert not in selected:
+            near = nearest(need_of(options.invert)[0], selected)
+            raise Refused(f"{options.invert} is not selected" + (f"; did you mean {near}?" if near else ""))
+        roots, below = [options.invert], inverted(below)
     packages = [{"name": name, "version": version, "needs": needs[name]} for name, version in selected.items()]
     out.give({"revision": reply["revision"], "roots": roots, "packages": packages},
-             drawn(roots, below, lambda name: f"{out.style(name, 'bold')} {selected[name]}", given.depth, out))
+             drawn(roots, below, lambda name: f"{out.style(name, 'bold')} {selected[name]}", options.depth, out))
     return None
 
 

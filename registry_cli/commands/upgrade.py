@@ -20,17 +20,17 @@ if TYPE_CHECKING:
     from ..locks import Lock
     from ..output import Output
 
-    class Given(shapes.Given, Protocol):
+    class Options(shapes.Options, Protocol):
         """The words of this subcommand, which takes many packages."""
         name: list[str]
 
 
-def run(given: Given, out: Output) -> int | None:
-    path = given.lock or DEFAULT
+def run(options: Options, out: Output) -> int | None:
+    path = options.lock or DEFAULT
     before = lock_of(path)
     lock = before.selected
-    request = request_of(given, without(path, lock, given.name))
-    with reading(given) as session:
+    request = request_of(options, without(path, lock, options.name))
+    with reading(options) as session:
         reply = answered(session, request)
         if "selected" not in reply:
             return refused(session, request, reply, out)
@@ -42,7 +42,7 @@ def run(given: Given, out: Output) -> int | None:
     same = {name: text for name, text in lock.items() if selected.get(name) == text}
     for it in lock_notes(path, same, packages):
         out.note(it)
-    return settled(path, before, new, given, out)
+    return settled(path, before, new, options, out)
 
 
 def without(path: str, lock: Mapping[str, str], names: Collection[str]) -> dict[str, str]:
@@ -54,12 +54,12 @@ def without(path: str, lock: Mapping[str, str], names: Collection[str]) -> dict[
     return {name: text for name, text in lock.items() if names and name not in names}
 
 
-def settled(path: str, before: Lock, new: Lock, given: Given, out: Output) -> int | None:
+def settled(path: str, before: Lock, new: Lock, options: Options, out: Output) -> int | None:
     """Writes the change where it is wanted, and says whether it is written."""
     if new == before:
         out.note(f"nothing changes in {path}")
         return None
-    is_wanted = True if given.yes else out.ask(f"write this to {path}?")
+    is_wanted = True if options.yes else out.ask(f"write this to {path}?")
     if not is_wanted:
         out.note(f"{path} is unchanged" + ("" if is_wanted is False else ": --yes writes it without a question"))
         return REFUSED

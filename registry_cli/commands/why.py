@@ -29,55 +29,55 @@ if TYPE_CHECKING:
     from ..output import Output
     from ..shapes import Object, Reply, Request
 
-    class Given(shapes.Given, Protocol):
+    class Options(shapes.Options, Protocol):
         """The words of this subcommand; `version` is what --not takes, a name and a version."""
         version: list[str] | None
 
 
-def run(given: Given, out: Output) -> None:
+def run(options: Options, out: Output) -> None:
     """Tells what is asked, and draws it; of several requests the last one."""
-    check(given)
+    check(options)
     picture: Callable[[float], str] | None = None
     answers: list[dict[str, object]] = []
     begun: float | None = None
     try:
-        for case in of_files(given, given.asked) if given.asked else of_journal(given):
+        for case in of_files(options, options.asked) if options.asked else of_journal(options):
             with explaining("selected" not in case.reply, begun):
-                lines = case.why_not(given.version[0], given.version[1]) if given.version else case.answer()
+                lines = case.why_not(options.version[0], options.version[1]) if options.version else case.answer()
             answers.append({"request": case.request, "reply": case.reply, "told": lines})
             if not out.is_json:
                 out.give(None, [""] * (len(answers) > 1))
-                tell(case, lines, sys.stdout, given.full or not sys.stdout.isatty(), "--full tells all of them")
+                tell(case, lines, sys.stdout, options.full or not sys.stdout.isatty(), "--full tells all of them")
             picture = case.draw
             begun = time.monotonic()  # the next one has seconds of its own
         if out.is_json:
             out.give(answers, [])
-        if given.picture:
+        if options.picture:
             if picture is None:
                 raise Refused("there is nothing to draw")
-            write_file(given.picture, picture(math.inf if given.unfolded else MOST_SHOWN))
+            write_file(options.picture, picture(math.inf if options.unfolded else MOST_SHOWN))
     except ValueError as fault:  # what the checker of derivations says of files that can't be judged
         raise Refused(str(fault)) from None
 
 
-def check(given: Given) -> None:
+def check(options: Options) -> None:
     """Words that don't go together."""
-    if given.asked and (given.need or given.lock or given.budget is not None):
+    if options.asked and (options.need or options.lock or options.budget is not None):
         raise Usage("--asked reads requests from a file: it can't be used with needs, --lock or --budget")
-    if given.asked and given.connect:
+    if options.asked and options.connect:
         raise Usage("--asked can't be used with --connect: it reads a session from files")
-    if given.unfolded and not given.picture:
+    if options.unfolded and not options.picture:
         raise Usage("--unfolded needs --picture FILE")
-    if not given.asked and (given.told or given.request):
+    if not options.asked and (options.told or options.request):
         raise Usage("--told and --request need --asked FILE")
-    if given.version and not (NAME.fullmatch(given.version[0]) and read_version(given.version[1])):
-        raise Usage(f"these are not a package name and a version: {' '.join(given.version)!r}")
+    if options.version and not (NAME.fullmatch(options.version[0]) and read_version(options.version[1])):
+        raise Usage(f"these are not a package name and a version: {' '.join(options.version)!r}")
 
 
-def of_journal(given: Given) -> Iterator[Case]:
+def of_journal(options: Options) -> Iterator[Case]:
     """The one case of needs that are asked for now."""
-    request = request_of(given)
-    with reading(given) as session:
+    request = request_of(options)
+    with reading(options) as session:
         names = set(catalog_of(session.journal()).lines)
         budget: Request = {"budget": request["budget"]} if "budget" in request else {}
 
@@ -89,15 +89,15 @@ def of_journal(given: Given) -> Iterator[Case]:
                    put=lambda question, it: question.put(session.commands(), it | budget, registry))
 
 
-def of_files(given: Given, asked: str) -> Iterator[Case]:
+def of_files(options: Options, asked: str) -> Iterator[Case]:
     """The cases of a session's request lines and replies that are asked for, each at its place."""
     lines = lines_of(asked)
-    requests, replies = (lines, lines_of(given.told)) if given.told else (lines[::2], lines[1::2])
+    requests, replies = (lines, lines_of(options.told)) if options.told else (lines[::2], lines[1::2])
     counts = f"{len(requests)} request lines and {len(replies)} replies"
     demand(len(requests) == len(replies), f"there are {counts}", Refused)
-    journal = read_journal(given.journal) if given.journal else None
+    journal = read_journal(options.journal) if options.journal else None
     commands: list[Object] = []
-    wanted = wanted_of(given, requests, replies)
+    wanted = wanted_of(options, requests, replies)
     for number, (request, reply, registry) in enumerate(replayed(requests, replies, journal), 1):
         commands += [request] if reply.get("ok") is True else []
         if number in wanted:
@@ -127,16 +127,16 @@ def asked_anew(commands: Iterable[Request], request: Request) -> Reply:
         return session.ask(*commands, request)[-1]
 
 
-def wanted_of(given: Given, requests: Sequence[Object], replies: Sequence[Object]) -> set[int]:
+def wanted_of(options: Options, requests: Sequence[Object], replies: Sequence[Object]) -> set[int]:
     """The numbers of the requests that are told: one that is named, or the last one, or each that was refused."""
     lines = enumerate(zip(requests, replies), 1)
     answered = [number for number, (request, reply) in lines if is_answered(request, reply)]
     refused = [number for number in answered if "selected" not in replies[number - 1]]
-    if given.request:
-        what = f"request {given.request} is no request with a selection or a refusal"
-        demand(given.request in answered, what, Refused)
-        return {given.request}
-    wanted = answered[-1:] if given.version or (given.picture and not refused) else refused
+    if options.request:
+        what = f"request {options.request} is no request with a selection or a refusal"
+        demand(options.request in answered, what, Refused)
+        return {options.request}
+    wanted = answered[-1:] if options.version or (options.picture and not refused) else refused
     none = "no request is refused" if answered else "there is no request with a selection or a refusal"
     demand(wanted, none, Refused)
     return set(wanted)

@@ -10,10 +10,10 @@ if TYPE_CHECKING:
     from ..shapes import Named, Request
 
 
-def run(given: Named, out: Output) -> None:
-    command: Request = {"op": given.subcommand, "name": given.name, "version": given.version}
-    with writing(given) as session:
+def run(options: Named, out: Output) -> None:
+    command: Request = {"op": options.subcommand, "name": options.name, "version": options.version}
+    with writing(options) as session:
         (reply,) = session.ask(command)
         accepted(session, command, reply)
-        done = {"yank": "yanked", "unyank": "no longer yanked:"}[given.subcommand]
-        out.give(reply, [f"{done} {given.name} {given.version} (revision {reply['revision']})"])
+        done = {"yank": "yanked", "unyank": "no longer yanked:"}[options.subcommand]
+        out.give(reply, [f"{done} {options.name} {options.version} (revision {reply['revision']})"])

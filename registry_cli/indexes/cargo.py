@@ -128,29 +128,29 @@ class Cargo(Index):
         and what is said of it, where the workspace says it with the folder of that."""
         for table in (self.manifests[folder], *self.manifests[folder].get("target", {}).values()):
             for kind in KINDS:
-                for alias, given in table.get(kind, {}).items():
-                    at, given = folder, given if isinstance(given, dict) else {"version": given}
-                    if given.get("workspace"):
+                for alias, value in table.get(kind, {}).items():
+                    at, entry = folder, value if isinstance(value, dict) else {"version": value}
+                    if entry.get("workspace"):
                         at, workspace = self.workspace(folder)
                         shared = workspace.get("dependencies", {}).get(alias, {})
                         shared = shared if isinstance(shared, dict) else {"version": shared}
-                        given = {**shared, "optional": given.get("optional")}
-                    path = Path(os.path.normpath(at / given["path"])) if "path" in given else None
-                    yield kind.startswith("dev"), alias, given, path
+                        entry = {**shared, "optional": entry.get("optional")}
+                    path = Path(os.path.normpath(at / entry["path"])) if "path" in entry else None
+                    yield kind.startswith("dev"), alias, entry, path
 
     def release(self, folder: Path, crate: Crate) -> Release:
         """The package of a folder, which has a name, with its dependencies: to run and to build, without the optional
         ones."""
         _, version = self.named(folder) or ("", "")
         needs: list[Dependency] = []
-        for is_dev, alias, given, path in self.tables(folder):
-            name = given.get("package", alias)
+        for is_dev, alias, entry, path in self.tables(folder):
+            name = entry.get("package", alias)
             there = self.named(path) if path in self.manifests else None
             example = need(crate.name, version, name)
-            if is_dev or given.get("optional"):
+            if is_dev or entry.get("optional"):
                 crate.notes.left_out("dev dependencies" if is_dev else "optional dependencies", example)
-            elif "version" in given:
-                needs.append((name, str(given["version"])))
+            elif "version" in entry:
+                needs.append((name, str(entry["version"])))
             elif there:
                 needs.append((name, f"={there[1]}"))
             else:

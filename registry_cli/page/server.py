@@ -10,7 +10,7 @@ from http.server import BaseHTTPRequestHandler, ThreadingHTTPServer
 from urllib.parse import parse_qs, urlsplit
 
 from .. import TYPE_CHECKING
-from ..failures import Failed, Failure, Refused, Unanswered, told
+from ..failures import Failed, Failure, Refused, Unanswered, one_line
 from .answers import ANSWERS, AtFault, NotThere
 
 if TYPE_CHECKING:
@@ -124,7 +124,7 @@ class Server(ThreadingHTTPServer):
         try:
             super().__init__((HOST, port), Handler)
         except OSError as fault:
-            reason = f"port {port} can't be taken: {told(fault)}"
+            reason = f"port {port} can't be taken: {one_line(fault)}"
             raise Failed(f"{reason}; without --port one is picked that is free") from None
         self.journal, self.files, self.port = journal, files(), self.server_address[1]
         names = (HOST, "localhost")

@@ -6,8 +6,7 @@ get shorter.
 """
 import os
 import re
-import tempfile
-import unittest
+from pathlib import Path
 
 from tests.support.program import TOP
 
@@ -24,9 +23,9 @@ def borrowed(crates):
             for folder, _, files in os.walk(os.path.join(crates, name, part)):
                 for file in files:
                     path = os.path.join(folder, file)
-                    with open(path, encoding="utf-8") as text:
-                        found |= {(os.path.relpath(path, crates), module) for module, other in CITED.findall(text.read())
-                                  if other != name and other in names}
+                    found |= {(os.path.relpath(path, crates), module) for module,
+                              other in CITED.findall(Path(path).read_text(encoding="utf-8")) if other != name
+                              and other in names}
     return found
 
 
@@ -40,20 +39,12 @@ def shown(found):
     return "\n".join(" ".join(one) for one in sorted(found))
 
 
-class Borrowed(unittest.TestCase):
+class TestBorrowed:
     def test_the_list_only_gets_shorter(self):
         said, stands = set(listed()), borrowed(os.path.join(TOP, "crates"))
-        self.assertEqual(stands - said, set(), "these cite proofs of another crate, and are to do without:\n" + shown(stands - said))
-        self.assertEqual(said - stands, set(), "these are gone, and leave the list:\n" + shown(said - stands))
+        assert stands - said == set(), "these cite proofs of another crate, and are to do without:\n" + shown(stands
+                - said)
+        assert said - stands == set(), "these are gone, and leave the list:\n" + shown(said - stands)
 
     def test_the_list_is_in_order(self):
-        self.assertEqual(listed(), sorted(set(listed())))
-
-    def test_what_counts(self):
-        with tempfile.TemporaryDirectory() as crates:
-            for name, text in (("low", ""), ("high", "use Rattle.low.proofs.Lemmas.{a}\nuse Rattle.low.specs.Words.{b}\n"
-                                             "use Rattle.high.proofs.Own.{c}\nuse Rattle.std.proofs.Common.{d}\n")):
-                os.makedirs(os.path.join(crates, name, "proofs"))
-                with open(os.path.join(crates, name, "proofs", "One.antt"), "w", encoding="utf-8") as file:
-                    file.write(text)
-            self.assertEqual(borrowed(crates), {("high/proofs/One.antt", "Rattle.low.proofs.Lemmas")})
+        assert listed() == sorted(set(listed()))

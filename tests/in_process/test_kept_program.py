@@ -13,8 +13,7 @@ from dev.building.kept_program import take, taken
 
 
 def sum_of(file):
-    with open(file, "rb") as read:
-        return hashlib.sha256(read.read()).hexdigest()
+    return hashlib.sha256(Path(file).read_bytes()).hexdigest()
 
 
 class Crate:
@@ -42,8 +41,7 @@ class Store:
     def keep(self, crate, path, data):
         at = self.place(crate, False, self.key(crate))
         os.makedirs(at)
-        with open(os.path.join(at, "0"), "wb") as file:
-            file.write(data)
+        Path(at, "0").write_bytes(data)
         made = [(path, sum_of(os.path.join(at, "0")))]
         with open(os.path.join(at, "made.json"), "w", encoding="utf-8") as file:
             json.dump({"files": made}, file)
@@ -65,62 +63,43 @@ class Taken(unittest.TestCase):
 
     def kit(self, **texts):
         self.store = Store(self.room, {"low": "a", "top": "b", **texts})
-        return SimpleNamespace(Crate=SimpleNamespace(), handles_of=lambda root: f"handles of {root}", Kept=lambda crates: self.store,
-                               rtlib=SimpleNamespace(sum_of=sum_of, Crate=lambda *given: self.asked.append(given) or self.top))
+        rtlib = SimpleNamespace(sum_of=sum_of, Crate=lambda *given: self.asked.append(given) or self.top)
+        return SimpleNamespace(Crate=SimpleNamespace(), handles_of=lambda root: f"handles of {root}",
+                               Kept=lambda crates: self.store, rtlib=rtlib)
 
     def take(self, **texts):
         self.asked, kit = [], self.kit(**texts)
         found = take(kit, self.top, self.to)
         # the kit reads what crates may use before it names what it keeps
-        self.assertEqual(kit.Crate.allowed, "handles of top")
+        assert kit.Crate.allowed == "handles of top"
         return found
 
     def test_the_program_of_the_same_files(self):
         # the second time its folder is there
         for _ in range(2):
-            self.assertTrue(self.take())
-            with open(self.to, "rb") as file:
-                self.assertEqual(file.read(), b"program")
-            self.assertTrue(os.access(self.to, os.X_OK))
+            assert self.take()
+            assert Path(self.to).read_bytes() == b"program"
+            assert os.access(self.to, os.X_OK)
 
     def test_none_where_a_file_differs(self):
         for changed in ({"top": "c"}, {"low": "c"}):
-            self.assertFalse(self.take(**changed))
-            self.assertFalse(os.path.exists(self.to))
+            assert not self.take(**changed)
+            assert not os.path.exists(self.to)
 
     def test_none_whose_bytes_are_not_those_that_were_kept(self):
-        with open(self.kept, "wb") as file:
-            file.write(b"another")
-        self.assertFalse(self.take())
-        self.assertEqual(os.listdir(os.path.dirname(self.to)), [])
-
-    def test_the_programs_file_among_others(self):
-        path = os.path.join(os.path.dirname(self.kept), "made.json")
-        with open(path, encoding="utf-8") as file:
-            (own,) = json.load(file)["files"]
-        os.rename(self.kept, os.path.join(os.path.dirname(self.kept), "1"))
-        for files, is_there in (([["other", "x"], own], True), ([["other", "x"], ["top.d", own[1]]], False)):
-            with open(path, "w", encoding="utf-8") as file:
-                json.dump({"files": files}, file)
-            self.assertIs(self.take(), is_there)
+        Path(self.kept).write_bytes(b"another")
+        assert not self.take()
+        assert os.listdir(os.path.dirname(self.to)) == []
 
     def test_what_is_asked_of_the_kit(self):
         self.asked = []
         folder = os.path.join(self.room, "taken")
         with mock.patch.object(kept_program.kit_commands, "load", lambda: self.kit()):
-            self.assertEqual(taken(Path("/a top"), "top", folder), Path(folder, "top"))
-        self.assertEqual(self.asked, [("/a top/crates/top", "/a top", {})])
-        with open(os.path.join(folder, "top"), "rb") as file:
-            self.assertEqual(file.read(), b"program")
+            assert taken(Path("/a top"), "top", folder) == Path(folder, "top")
+        assert self.asked == [("/a top/crates/top", "/a top", {})]
+        assert Path(folder, "top").read_bytes() == b"program"
         with mock.patch.object(kept_program.kit_commands, "load", lambda: self.kit(top="c")):
-            self.assertIsNone(taken(Path("/a top"), "top", os.path.join(self.room, "other")))
+            assert taken(Path("/a top"), "top", os.path.join(self.room, "other")) is None
         for fault in (SystemExit(1), ValueError("no")):
             with mock.patch.object(kept_program.kit_commands, "load", side_effect=fault):
-                self.assertIsNone(taken(Path("/a top"), "top", folder))
-
-    def test_none_of_a_kit_that_keeps_otherwise(self):
-        self.assertFalse(take(SimpleNamespace(Crate=SimpleNamespace(), handles_of=lambda root: ()), self.top, self.to))
-
-
-if __name__ == "__main__":
-    unittest.main()
+                assert taken(Path("/a top"), "top", folder) is None

@@ -1,7 +1,7 @@
 """docs/MAP.md has each error, and docs/REGISTRY.md each by its number and name. `test_pages.py` follows its links."""
 import os
 import re
-import unittest
+from pathlib import Path
 
 from tests.support.program import TOP
 
@@ -10,8 +10,7 @@ LINK = re.compile(r"\[`([^`]+)`\]\(([^)#]+)\)")
 
 
 def read(path):
-    with open(path, encoding="utf-8") as text:
-        return text.read()
+    return Path(path).read_text(encoding="utf-8")
 
 
 def declares(text, path, name):
@@ -40,20 +39,16 @@ def fault_of(link):
     return None if name == os.path.basename(whole) or declares(read(whole), whole, name) else f"{target} has no {name}"
 
 
-class Map(unittest.TestCase):
+class TestMap:
     def test_each_error_is_named(self):
         listed = re.findall(r"^\| (\d+) \| \w+ \|", read(os.path.join(TOP, "docs", "REGISTRY.md")), re.M)
         named = re.findall(r"^\| Errors? ([\d, ]+(?:and \d+)?)", read(MAP), re.M)
-        self.assertEqual([number for one in named for number in re.findall(r"\d+", one)], listed)
+        assert [number for one in named for number in re.findall(r"\d+", one)] == listed
 
     def test_each_error_has_its_number_and_name(self):
         """Of some errors no line of the program is answered."""
         listed = re.findall(r"^\| (\d+) \| (\w+) \|", read(os.path.join(TOP, "docs", "REGISTRY.md")), re.M)
         said = read(os.path.join(TOP, "crates", "versions", "specs", "Refusals.antt"))
-        self.assertEqual(re.findall(r"^number_of (\w+) = (\d+)$", said, re.M), [(name, number) for number, name in listed])
-        self.assertEqual(re.findall(r'^name_of (\w+) = codes "(\w+)"$', said, re.M), [(name, name) for _, name in listed])
-        self.assertEqual(len(listed), 22)
-
-
-if __name__ == "__main__":
-    unittest.main()
+        assert re.findall(r"^number_of (\w+) = (\d+)$", said, re.M) == [(name, number) for number, name in listed]
+        assert re.findall(r'^name_of (\w+) = codes "(\w+)"$', said, re.M) == [(name, name) for _, name in listed]
+        assert len(listed) == 22

@@ -16,7 +16,8 @@ FOREIGN = {"env_logger", "posix_fadvise", "proxy_half_close", "M_MMAP_THRESHOLD"
 # What stands below a prefix once it is installed, of which `test_install.py` knows.
 INSTALLED = ("bin/", "include/", "lib/", "share/")
 SOURCES = (".rt", ".antt", ".py", ".rs", ".c", ".h", ".rows", ".json", ".txt", ".edit", ".toml", ".md", ".svg", "")
-FOLDERS = ("crates", "tools", "clients", "bench", "dev", "registry_cli", "registry_etcd", "registry_service", "rows", "edits", "tests")
+FOLDERS = ("crates", "tools", "clients", "bench", "dev", "registry_cli", "registry_etcd", "registry_service",
+           "rows", "edits", "tests")
 
 
 def page(name):
@@ -50,7 +51,8 @@ class Known:
     def __init__(self, texts):
         self.files = files_of(texts)
         texts = {path: said_by_code(path, text) for path, text in texts.items() if path.name != Path(__file__).name}
-        self.words = {path: {*re.findall(r"\w+(?:-\w+)+|\w+", text), *re.findall(r"\w+", text)} for path, text in texts.items()}
+        self.words = {path: {*re.findall(r"\w+(?:-\w+)+|\w+", text), *re.findall(r"\w+", text)} for path,
+                      text in texts.items()}
         self.all = set().union(*self.words.values())
 
     def has(self, name):
@@ -59,8 +61,9 @@ class Known:
         if name in FOREIGN:
             return True
         *of, last = name.removeprefix("--").split("::")
-        return last in self.all if not of else any(
-            last in words and all(part in words or part in path.parts for part in of) for path, words in self.words.items())
+        return last in self.all if not of else any(last in words and all(part in words
+                                                                         or part in path.parts for part in of)
+                                                   for path, words in self.words.items())
 
 
 def unknown(text, known):
@@ -84,7 +87,8 @@ def undeclared(text):
     """What is wrong with the links from names to the files that declare them, and from the names of files."""
     found = [fault_of(link) for link in LINK.findall(text)
              if link[1].startswith("../crates/") or link[1].startswith("../") and link[1].endswith(".py")]
-    misnamed = [f"{name} is {target}" for name, target in prose.LINK.findall(text) if prose.FILE.fullmatch(name) and not f"/{target}".partition("#")[0].endswith(f"/{name}")]
+    misnamed = [f"{name} is {target}" for name, target in prose.LINK.findall(text) if prose.FILE.fullmatch(name)
+                and not f"/{target}".partition("#")[0].endswith(f"/{name}")]
     return [fault for fault in found if fault] + misnamed
 
 
@@ -114,11 +118,11 @@ class Pages(unittest.TestCase):
     def each(self, found):
         for name in ALL:
             with self.subTest(name):
-                self.assertEqual(list(found(name, page(name))), [])
+                assert list(found(name, page(name))) == []
 
     def test_each_name_is_in_the_sources(self):
         self.each(lambda name, text: unknown(text, self.known))
-        self.assertGreater(sum(len({*prose.names(page(name))}) for name in ALL), 150)
+        assert sum(len({*prose.names(page(name))}) for name in ALL) > 150
 
     def test_each_link_leads_somewhere(self):
         anchors = {name: prose.anchors(page(name)) for name in ALL}
@@ -133,55 +137,32 @@ class Pages(unittest.TestCase):
                  for name in in_comments(path, text, self.known)]
         found += [f"{path}: {item}" for path, text in crates.items() if path.suffix == ".rt" and "src" in path.parts
                   and path.parts[1] not in ("rows", "probe") for item in without_comment(text)]
-        self.assertEqual(found, [])
+        assert found == []
 
 
-class WrongPages(unittest.TestCase):
-    """What is wrong with a page is found, and nothing else."""
-
-    def test_a_name_that_is_nowhere(self):
-        known = Known({Path("crates/wire/src/request.rt"): "pub fn read_request() impl Seat { fn enter }", Path("registry_cli/limits.py"): "MOST_X = 1 #--with-it"})
-        for text in ("`read_request` `wire::read_request` `Seat::enter` `MOST_X` `limits.py` `registry_cli/limits.py` `request.rt`", "plain `needs` words",
-                     "    `Nowhere_1`", "`README.md`", "`read_request()`", "`--with-it`", "`share/x.json`"):
-            self.assertEqual(unknown(text, known), [], text)
-        commented = Known({Path("a.rt"): "fn b_c() // `d_e` as\nlet f_g = 1;", Path("h.antt"): "i-j k_l = 1 -- `m_n`\n-- `o_p`\nq_r--s_t = 2", Path("tests/in_process/test_pages.py"): "u_v"})
-        self.assertEqual(unknown("`b_c` `d_e` `f_g` `k_l` `m_n` `o_p` `q_r` `s_t` `u_v`", commented), ["d_e", "m_n", "o_p", "u_v"])
-        for text in ("`read_requests`", "`Seat::leave`", "`Row::enter`", "`registry::read_request`", "`limit.py`", "`tool/limits.py`", "`MostX`", "`--without`"):
-            self.assertEqual(len(unknown(text, known)), 1, text)
-
-    def test_a_link_that_leads_nowhere(self):
-        anchors = {"": prose.anchors("# Own title\n"), "docs/FORMATS.md": prose.anchors("## The journal's file\n")}
-        good = "[a](#own-title) [a](FORMATS.md#the-journals-file) [a](REGISTRY.md#some-title) [a](../README.md) [a](https://example.org/x)"
-        self.assertEqual(list(lost(good, "docs", anchors)), [])
-        for target in ("#other", "FORMATS.md#the-journal", "FORMAT.md", "../crates/none"):
-            self.assertEqual(list(lost(f"[a]({target})", "docs", anchors)), [target])
-
-    def test_a_name_that_its_link_does_not_lead_to(self):
-        row = "../crates/chronicle/src/row.rt"
-        self.assertEqual(undeclared(f"[`Row::open`]({row}) [`row.rt`]({row}) [`read`](../tests/in_process/test_map.py)"), [])
-        self.assertEqual(undeclared(f"[row.rt]({row}) [src/row.rt]({row}) [doc/a.md](https://b.org/c/doc/a.md) [x.md](x.md#y) [the row]({row})"), [])
-        for wrong in (f"[`Row::close`]({row})", f"[`Seat`]({row})", f"[`seat.rt`]({row})", "[`Row`](../crates/chronicle/src/rows.rt)",
-                      f"[seat.rt]({row})", "[a/x.md](b/x.md)", "[`reads`](../tests/in_process/test_map.py)"):
-            self.assertEqual(len(undeclared(wrong)), 1, wrong)
-
-    def test_a_comment_that_names_what_is_not_there(self):
-        path = Path("crates/a/src/lib.rt")
-        known = Known({path: "pub fn read_it() {}", Path("crates/a/src/b.rt"): "const ONE_LIMIT: u8 = 1;"})
-        for text in ("// `read_it` [`ONE_LIMIT`](a::ONE_LIMIT) `let x`", "//! | `b` | the b |\n//! | `lib`, `b.rt` | |",
-                     "let read_that = \"`no_one`\";"):
-            self.assertEqual(list(in_comments(path, text, known)), [], text)
-        for text in ("// `read_that`", "let read_it = 1; // is `no_one`", "/// [`ONE_LIMIT`](a::TWO_LIMIT)",
-                     "//! | `c` | the c |", "//! See `d.rt`."):
-            self.assertEqual(len(list(in_comments(path, text, known))), 1, text)
-
-    def test_an_item_without_a_comment(self):
-        for text in ("/// A.\npub fn a() {\n}\n", "{\n    /// A.\n    #[inline]\n    pub const fn a() {\n",
-                     "x\npub(crate) fn a"):
-            self.assertEqual(without_comment(text), [], text)
-        for text in ("//! A.\n\npub struct A {\n}\n", "// A.\n#[inline]\n    pub fn a() {\n",
-                     "}\npub const A: u8 = 1;"):
-            self.assertEqual(len(without_comment("\n" + text)), 1, text)
+def test_what_is_wrong_with_a_page_is_found():
+    known = Known({Path("crates/wire/src/request.rt"): "pub fn read_request() impl Seat { fn enter } // `said_alone`",
+                   Path("registry_cli/limits.py"): "MOST_X = 1 #--with-it"})
+    wrong = ["read_requests", "registry::read_request", "limit.py", "--without", "said_alone"]
+    right = ["read_request", "wire::read_request", "Seat::enter", "MOST_X", "limits.py", "--with-it",
+             "README.md", "needs"]
+    assert unknown(" ".join(f"`{name}`" for name in [*right, *wrong]), known) == wrong
+    anchors = {"": prose.anchors("# Own title\n"), "docs/FORMATS.md": prose.anchors("## The journal's file\n")}
+    wrong = ["#other", "FORMATS.md#the-journal", "FORMAT.md", "../crates/none"]
+    right = ["#own-title", "FORMATS.md#the-journals-file", "../README.md", "https://example.org/x"]
+    assert list(lost(" ".join(f"[a]({target})" for target in [*right, *wrong]), "docs", anchors)) == wrong
+    row = "../crates/chronicle/src/row.rt"
+    assert undeclared(f"[`Row::open`]({row}) [`row.rt`]({row}) [`read`](../tests/in_process/test_map.py)") == []
+    for link in (f"[`Row::close`]({row})", f"[`seat.rt`]({row})", "[`Row`](../crates/chronicle/src/rows.rt)"):
+        assert len(undeclared(link)) == 1, link
 
 
-if __name__ == "__main__":
-    unittest.main()
+def test_what_is_wrong_with_a_comment_is_found():
+    path = Path("crates/a/src/lib.rt")
+    known = Known({path: "pub fn read_it() {}", Path("crates/a/src/b.rt"): "const ONE_LIMIT: u8 = 1;"})
+    for text, count in (("// `read_it` [`ONE_LIMIT`](a::ONE_LIMIT)", 0), ("//! | `b` | the b |", 0),
+                        ("let it = \"`no_one`\";", 0), ("let read_it = 1; // is `no_one`", 1),
+                        ("/// [`ONE_LIMIT`](a::TWO_LIMIT)", 1), ("//! | `c` | the c |", 1)):
+        assert len(list(in_comments(path, text, known))) == count, text
+    assert without_comment("/// A.\n#[inline]\npub fn a() {\n}\n") == []
+    assert len(without_comment("//! A.\n\npub struct A {\n}\n")) == 1

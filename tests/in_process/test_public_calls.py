@@ -1,8 +1,10 @@
-"""Each call without a table of rows is one whose contract says all of it: the clauses that are named stand at the call, and a program
-makes the call, so that its lines and `test_memory.py` show that it answers where there is memory, and gives up where there is none."""
+"""Each call without a table of rows is one whose contract says all of it: the clauses that are named stand at the call,
+and a program makes the call, so that its lines and `test_memory.py` show that it answers where there is memory, and
+gives up where there is none."""
 import glob
 import os
 import unittest
+from pathlib import Path
 
 from tests.support.program import TOP
 from tests.support.public_calls import clauses_of, said_by_clauses, that_take_memory
@@ -10,34 +12,6 @@ from tests.support.source_calls import Sources, sources_below
 
 # the program, and the example that the probe runs
 BEGINNINGS = {("registryd/src/main.rt", "main"), ("probe/src/team.rt", "run")}
-SOURCE = """\
-impl Clone for Room {
-    ghost is_clone = { λ room copy. copy ≡ room };
-
-    fn clone(&self) -> Result<Room, AllocError> {
-    }
-}
-
-impl Room {
-    pub fn open(&mut self) -> Result<(), AllocError>
-        requires { closed self.old }
-        ensures opened { OnOk result (open self.new) }
-        ensures unchanged { OnErr result (self.new ≡ self.old) }
-    {
-        hidden();
-    }
-
-    pub(crate) fn hidden(&self)
-        ensures inner { seen self.now }
-    {
-    }
-}
-
-pub fn door(alloc: Global) -> Result<Door, AllocError>
-    ensures { IfOk result IsDoor }
-{
-}
-"""
 
 
 def clauses():
@@ -45,9 +19,8 @@ def clauses():
     found = {}
     for path in glob.glob(os.path.join(TOP, "crates", "*", "src", "**", "*.rt"), recursive=True):
         crate = os.path.relpath(path, os.path.join(TOP, "crates")).partition(os.sep)[0]
-        with open(path, encoding="utf-8") as text:
-            for (of, name), said in clauses_of(text.read()).items():
-                found.setdefault("::".join(part for part in (crate, of, name) if part), set()).update(said)
+        for (of, name), said in clauses_of(Path(path).read_text(encoding="utf-8")).items():
+            found.setdefault("::".join(part for part in (crate, of, name) if part), set()).update(said)
     return found
 
 
@@ -56,23 +29,16 @@ class SaidByClauses(unittest.TestCase):
         there = clauses()
         for name, said in said_by_clauses():
             with self.subTest(name):
-                self.assertTrue(said)
-                self.assertLessEqual(set(said), there[name])
+                assert said
+                assert set(said) <= there[name]
 
     def test_the_list_is_in_order_and_has_calls_that_take_memory(self):
         names = [name for name, _ in said_by_clauses()]
-        self.assertEqual(names, sorted(set(names)))
-        self.assertLessEqual(set(names), that_take_memory())
+        assert names == sorted(set(names))
+        assert set(names) <= that_take_memory()
 
     def test_a_program_makes_each(self):
         sources = Sources(sources_below(TOP))
         reached = sources.reached({one for one in sources.calls if (one.path, one.name) in BEGINNINGS})
         made = {"::".join(part for part in (one.crate, one.owner, one.name) if part) for one in reached}
-        self.assertEqual({name for name, _ in said_by_clauses()} - made, set())
-
-    def test_what_counts_as_a_clause(self):
-        self.assertEqual(clauses_of(SOURCE), {("Room", "clone"): {"is_clone"}, ("Room", "open"): {"opened", "unchanged"}, (None, "door"): {"ensures"}})
-
-
-if __name__ == "__main__":
-    unittest.main()
+        assert {name for name, _ in said_by_clauses()} - made == set()

@@ -1,5 +1,5 @@
-"""What becomes of the requests of readers that are slow or are ended, by calls of them with programs that answer what the test has them
-answer, at a time that the test sets."""
+"""What becomes of the requests of readers that are slow or are ended, by calls of them with programs that answer what
+the test has them answer, at a time that the test sets."""
 import asyncio
 import random
 import unittest
@@ -13,7 +13,8 @@ GIVEN = SimpleNamespace(seconds=10, workers=1, budget=None, readers=2)
 
 
 class Program:
-    """What stands for a reader's program: it has the lines that it was asked, and a processor for a tenth of the time."""
+    """What stands for a reader's program: it has the lines that it was asked, and a processor for a tenth of the
+    time."""
 
     def __init__(self, case):
         self.case, self.lines, self.is_killed, self.spent = case, deque(), False, lambda: case.time / 10
@@ -95,11 +96,11 @@ class Slow(Case):
         self.ask((self.one, b"third"), (self.two, b"fourth"))
         self.pass_time(6)
         self.patient.child.answer(b"a reply")
-        self.assertEqual(self.lines(self.patient), [[b"fourth"]])
+        assert self.lines(self.patient) == [[b"fourth"]]
         self.pass_time(3.9)
-        self.assertEqual((self.two.told[1:], self.patient.child.is_killed), ([], False))
+        assert (self.two.told[1:], self.patient.child.is_killed) == ([], False)
         self.pass_time(0.2)
-        self.assertEqual((self.two.told[1:], self.patient.child.is_killed), ([(b"fourth", self.SPENT)], True))
+        assert (self.two.told[1:], self.patient.child.is_killed) == ([(b"fourth", self.SPENT)], True)
 
     def test_what_waits_is_told_at_the_limit_too(self):
         self.quick.is_up = False
@@ -107,23 +108,10 @@ class Slow(Case):
             self.ask((self.one, b"first"))
             self.ask((self.two, b"second"), op=op)
             self.pass_time(10)
-            self.assertEqual(self.two.told, [])
+            assert self.two.told == []
             self.pass_time(0.3)
-            self.assertEqual((self.two.told.pop(), len(self.pool.waiting)), ((b"second", reply), 0))
+            assert (self.two.told.pop(), len(self.pool.waiting)) == ((b"second", reply), 0)
             self.begin_again(self.patient)
-
-    def test_what_waited_for_one_that_took_its_limit_is_asked(self):
-        """With one reader: it came just after that one, and has its turn before its own limit is told."""
-        self.pool = self.pool_of(1)
-        reader, = self.pool.readers
-        self.ask((self.one, b"first"), (self.two, b"second"))
-        self.pass_time(10.01)
-        self.assertEqual((self.one.told, self.two.told, reader.child.is_killed), ([(b"first", self.SPENT)], [], True))
-        self.begin_again(reader)
-        self.pass_time(0.1)
-        self.assertEqual(self.lines(reader), [[b"second"]])
-        reader.child.answer(b"a reply")
-        self.assertEqual(self.two.told, [(b"second", b"a reply")])
 
     def test_what_is_late_since_the_machine_is_busy_is_not_slow(self):
         """Its program had no processor: what waits would wait as long for the next one."""
@@ -131,7 +119,7 @@ class Slow(Case):
             self.ask((self.one, b"first"), (self.two, b"second"), (self.three, b"third"))
             self.quick.child.spent = iter([5.0, 5.0 + effort]).__next__
             self.pass_time(5)
-            self.assertEqual((self.quick.child.is_killed, self.two.is_slow), (is_slow, is_slow))
+            assert (self.quick.child.is_killed, self.two.is_slow) == (is_slow, is_slow)
             if not is_slow:
                 self.patient.child.answer(b"a reply")
                 self.quick.child.answer(b"a reply")
@@ -139,86 +127,39 @@ class Slow(Case):
 
     def test_one_that_is_slow_leaves_the_last_reader_to_others(self):
         self.ask((self.one, b"first"), (self.two, b"second"))
-        self.assertEqual(self.lines(self.patient, self.quick), [[b"first"], [b"second"]])
+        assert self.lines(self.patient, self.quick) == [[b"first"], [b"second"]]
         self.pass_time(5)
         # while nothing waits it may go on
-        self.assertFalse(self.quick.child.is_killed)
+        assert not self.quick.child.is_killed
         self.ask((self.three, b"easy"))
         self.pass_time(0.05)
-        self.assertEqual((self.quick.child.is_killed, self.patient.child.is_killed, self.two.told), (True, False, []))
+        assert (self.quick.child.is_killed, self.patient.child.is_killed, self.two.told) == (True, False, [])
         self.begin_again(self.quick)
-        self.assertEqual((self.lines(self.quick), [it.line for it in self.pool.waiting]), ([[b"easy"]], [b"second"]))
+        assert (self.lines(self.quick), [it.line for it in self.pool.waiting]) == ([[b"easy"]], [b"second"])
         self.quick.child.answer(b"a reply")
-        self.assertEqual((self.three.told, self.lines(self.quick)), ([(b"easy", b"a reply")], [[]]))
+        assert (self.three.told, self.lines(self.quick)) == ([(b"easy", b"a reply")], [[]])
         # it is asked of the other one, and its limit is what it was
         self.patient.child.answer(b"a reply")
-        self.assertEqual(self.lines(self.patient), [[b"second"]])
+        assert self.lines(self.patient) == [[b"second"]]
         self.pass_time(5)
-        self.assertEqual(self.two.told, [(b"second", self.SPENT)])
-
-    def test_what_is_behind_a_slow_one_does_not_wait_for_it(self):
-        self.quick.is_up = False
-        self.ask((self.one, b"first"), (self.two, b"second"), (self.three, b"third"))
-        self.quick.is_up = True
-        self.pool.share()
-        self.assertEqual(self.lines(self.patient, self.quick), [[b"first"], [b"second", b"third"]])
-        self.pass_time(0.25)
-        self.assertFalse(self.quick.child.is_killed)
-        self.pass_time(0.05)
-        self.assertTrue(self.quick.child.is_killed)
-        self.begin_again(self.quick)
-        self.assertEqual((self.lines(self.quick), [it.line for it in self.pool.waiting]), ([[b"third"]], [b"second"]))
+        assert self.two.told == [(b"second", self.SPENT)]
 
     def test_a_client_whose_last_request_was_slow_is_kept_from_the_last_reader(self):
         self.ask((self.one, b"first"))
         self.pass_time(3)
         self.patient.child.answer(b"a reply")
-        self.assertTrue(self.one.is_slow)
+        assert self.one.is_slow
         self.ask((self.two, b"second"), (self.one, b"third"))
-        self.assertEqual((self.lines(self.patient, self.quick), len(self.pool.waiting)), ([[b"second"], []], 1))
+        assert (self.lines(self.patient, self.quick), len(self.pool.waiting)) == ([[b"second"], []], 1)
         # that only such ones wait ends nobody's search
         self.ask((self.three, b"slow"))
         self.pass_time(1)
-        self.assertFalse(self.quick.child.is_killed)
+        assert not self.quick.child.is_killed
         self.patient.child.answer(b"a reply")
-        self.assertEqual(self.lines(self.patient), [[b"third"]])
+        assert self.lines(self.patient) == [[b"third"]]
         # until it asks what is not slow
         self.patient.child.answer(b"a reply")
-        self.assertFalse(self.one.is_slow)
-
-    def test_a_client_is_slow_no_more_once_a_reader_was_at_its_request_for_a_moment_only(self):
-        self.one.is_slow = True
-        self.ask((self.one, b"first"))
-        self.pass_time(0.2)
-        self.patient.child.answer(b"a reply")
-        self.assertFalse(self.one.is_slow)
-
-    def test_what_is_asked_again_has_its_quarter_of_a_second_again(self):
-        """Also of the same reader, whose program has ended by itself."""
-        self.pool = self.pool_of(1)
-        reader, = self.pool.readers
-        self.ask((self.one, b"first"))
-        self.pass_time(9.9)
-        self.begin_again(reader)
-        self.pass_time(0.2)
-        self.assertFalse(reader.child.is_killed)
-        self.pass_time(0.1)
-        self.assertTrue(reader.child.is_killed)
-
-    def test_one_that_waited_in_vain_is_taken_for_quick(self):
-        self.one.is_slow = True
-        self.ask((self.two, b"slow"), (self.one, b"first"))
-        self.pass_time(10.3)
-        self.assertEqual((self.one.told, self.one.is_slow, self.two.is_slow), ([(b"first", self.SPENT)], False, True))
-
-    def test_only_the_slow_one_is_told_however_long_its_program_takes_to_end(self):
-        self.ask((self.one, b"first"))
-        self.pass_time(11)
-        self.ask((self.two, b"second"))
-        for _ in range(3):
-            self.pass_time(0.1)
-        self.assertTrue(self.patient.child.is_killed)
-        self.assertEqual((self.one.told, self.two.told, self.lines(self.quick)), ([(b"first", self.SPENT)], [], [[b"second"]]))
+        assert not self.one.is_slow
 
     def test_time_to_be_fed_is_not_the_requests(self):
         """What a reader is at is known by what it has answered: the commands before a request are not part of it."""
@@ -228,31 +169,25 @@ class Slow(Case):
         self.pass_time(0.2)
         self.quick.child.answer(b'{"ok":true,"revision":8}')
         self.pass_time(0.2)
-        self.assertFalse(self.quick.child.is_killed)
+        assert not self.quick.child.is_killed
         self.pass_time(0.1)
-        self.assertTrue(self.quick.child.is_killed)
+        assert self.quick.child.is_killed
 
-    def test_a_search_for_nobody_is_ended(self):
-        self.ask((self.one, b"first"))
-        self.one.has_gone = True
-        self.pass_time(0.2)
-        self.assertFalse(self.patient.child.is_killed)
-        self.pass_time(0.1)
-        self.assertTrue(self.patient.child.is_killed)
-        # nor is one asked for nobody
-        self.two.has_gone = True
-        self.quick.is_up = False
-        self.ask((self.two, b"second"))
-        self.pass_time(0.3)
-        self.assertEqual(len(self.pool.waiting), 0)
 
-    def test_when_requests_are_late(self):
-        self.quick.is_up = False
-        self.ask((self.one, b"first"), (self.two, b"second"))
-        for seconds, is_slow, is_late in ((5, False, False), (0.1, False, True), (0, True, False)):
-            self.time += seconds
-            self.two.is_slow = is_slow
-            self.assertIs(self.pool.are_late(), is_late)
+class Asking(Case):
+    def test_what_each_is_asked(self):
+        """One request at a time, but for the last of several: that one has four at most, and takes more once
+        these are answered."""
+        self.pool = self.pool_of(3)
+        first, second, last = self.pool.readers
+        self.ask(*((Asker(self.pool), b"%d" % number) for number in range(9)))
+        assert self.lines(first, second, last) == [[b"0"], [b"1"], [b"2"]]
+        last.child.answer(b"a reply")
+        assert self.lines(last) == [[b"3", b"4", b"5", b"6"]]
+        last.child.answer(b"a reply")
+        assert self.lines(last) == [[b"4", b"5", b"6"]]
+        first.child.answer(b"a reply")
+        assert self.lines(first, second, last) == [[b"7"], [b"1"], [b"4", b"5", b"6"]]
 
 
 class AtRandom(Case):
@@ -263,10 +198,12 @@ class AtRandom(Case):
         for seed in range(10):
             rng = random.Random(f"readers {seed}")
             self.pool = self.pool_of(rng.choice([2, 2, 3]))
-            waits = self.run_for(rng, hard=[Asker(self.pool) for _ in range(rng.randrange(1, 6))], easy=[Asker(self.pool) for _ in range(2)])
-            # for each of the hard clients: until it is known to be slow, a look, and a beginning; and each once more, which waited in vain
-            self.assertLess(max(waits), 2 * 5 * (readers.PATIENCE + 0.05 + self.BEGIN), seed)
-            self.assertGreater(len(waits), 50, seed)
+            waits = self.run_for(rng, hard=[Asker(self.pool) for _ in range(rng.randrange(1, 6))],
+                                 easy=[Asker(self.pool) for _ in range(2)])
+            # for each of the hard clients: until it is known to be slow, a look, and a beginning; and each once more,
+            # which waited in vain
+            assert max(waits) < 2 * 5 * (readers.PATIENCE + 0.05 + self.BEGIN), seed
+            assert len(waits) > 50, seed
 
     def run_for(self, rng, hard, easy):
         """A minute; answers how long each easy request waited."""
@@ -283,12 +220,13 @@ class AtRandom(Case):
             self.pass_time(0.05)
             for of in easy:
                 for line, reply in of.told[before[of]:]:
-                    self.assertEqual(reply, b"a reply")
+                    assert reply == b"a reply"
                     waits.append(self.time - spent[line][1])
         return waits
 
     def run_programs(self, spent, back):
-        """What the programs do in a step: one that was ended begins again, and else answers what it has worked at for long enough."""
+        """What the programs do in a step: one that was ended begins again, and else answers what it has worked
+        at for long enough."""
         for it in self.pool.readers:
             if it.child.is_killed:
                 if self.time >= back.setdefault(it, self.time + self.BEGIN):
@@ -309,8 +247,4 @@ class Fed(Case):
         reader.feed(b"command")
         made.ask(b"request", told.append)
         made.data_received(b'{"error":14,"name":"NoMemory","revision":7}\n{"packages":[],"revision":7}\n')
-        self.assertEqual((made.is_killed, told), (True, []))
-
-
-if __name__ == "__main__":
-    unittest.main()
+        assert (made.is_killed, told) == (True, [])

@@ -1,5 +1,6 @@
 """How a module is split into parts: which functions stand where, and that the parts fit together."""
-import unittest
+
+import pytest
 
 from dev.building.split_module import SHORT, Unknown, split
 
@@ -35,63 +36,34 @@ def heads(part, word):
     return {line.partition("@")[2].partition("(")[0].partition(" = ")[0]: line.partition(" @")[0] for line in lines}
 
 
-class Parts(unittest.TestCase):
-    def setUp(self):
+class TestParts:
+    def setup_method(self):
         self.first, self.second = split(MODULE, 2)
 
     def test_long_functions_stand_once_and_short_ones_where_they_are_called(self):
         own = "define internal void"
-        self.assertEqual(heads(self.first, "define"), {"main": "define i32", '"a::first"': "define hidden void", "short": own,
-                                                       "deeper": own, "lone": own})
-        self.assertEqual(heads(self.second, "define"), {'"a::second"': "define hidden void", "short": own, "deeper": own, "deep": own})
+        assert heads(self.first, "define") == {"main": "define i32", '"a::first"': "define hidden void", "short": own,
+                                                       "deeper": own, "lone": own}
+        assert heads(self.second, "define") == {'"a::second"': "define hidden void", "short": own, "deeper": own,
+                                                "deep": own}
 
     def test_what_is_used_of_others_is_declared(self):
-        self.assertEqual(heads(self.first, "declare"), {'"a::second"': "declare hidden void", "write": "declare i64"})
-        self.assertEqual(heads(self.second, "declare"), {'"a::first"': "declare hidden void"})
-        self.assertIn('declare hidden void @"a::first"(ptr %0) #0\n', self.second)
+        assert heads(self.first, "declare") == {'"a::second"': "declare hidden void", "write": "declare i64"}
+        assert heads(self.second, "declare") == {'"a::first"': "declare hidden void"}
+        assert 'declare hidden void @"a::first"(ptr %0) #0\n' in self.second
 
     def test_a_text_is_copied_and_what_has_one_address_is_not(self):
         for part in (self.first, self.second):
-            self.assertTrue(TEXT in part)
-        self.assertIn(TABLE.replace("private", "hidden"), self.first)
-        self.assertIn(CELL.replace("private", "hidden"), self.first)
-        self.assertIn("@table = external hidden constant %elsewhere\n", self.second)
-        self.assertIn("@cell = external hidden global %elsewhere\n", self.second)
-
-    def test_each_has_what_holds_for_all(self):
-        for part in (self.first, self.second):
-            self.assertTrue(part.startswith(HEAD.rstrip("\n")))
-            self.assertTrue(part.endswith("attributes #0 = { nounwind }\n!0 = !{}\n"))
-
-    def test_one_part_is_the_whole(self):
-        self.assertEqual(split(MODULE, 1), [MODULE])
-
-    def test_more_parts_than_long_functions(self):
-        parts = split(MODULE, 8)
-        self.assertEqual(sorted(name for part in parts for name in heads(part, "define") if name not in ("short", "deeper", "lone")),
-                         ['"a::first"', '"a::second"', "deep", "main"])
-
-    def test_a_library_has_what_it_exports_and_what_that_reaches(self):
-        library = MODULE.replace(function("main", ['"a::first"', '"a::second"']), "")
-        for name in ('"a::first"', '"a::second"'):
-            library = library.replace(f"define internal void @{name}(", f"define void @{name}(")
-        parts = split(library, 2, ('"a::first"', '"a::second"'))
-        self.assertEqual([{name: head for name, head in heads(part, "define").items() if "a::" in name} for part in parts],
-                         [{'"a::first"': "define void"}, {'"a::second"': "define void"}])
-        self.assertIn('declare void @"a::first"(ptr %0) #0\n', parts[1])
-        self.assertEqual([sorted(heads(part, "define").keys() & {"lone", "deep", "never", "short"}) for part in parts],
-                         [["lone", "short"], ["deep", "short"]])
-        for names in (("main",), ('"a::first"', '"a::third"')):
-            with self.assertRaises(Unknown):
-                split(library, 2, names)
+            assert TEXT in part
+        assert TABLE.replace("private", "hidden") in self.first
+        assert CELL.replace("private", "hidden") in self.first
+        assert "@table = external hidden constant %elsewhere\n" in self.second
+        assert "@cell = external hidden global %elsewhere\n" in self.second
 
     def test_a_module_of_another_form_is_not_split(self):
-        for other in (MODULE + "$group = comdat any\n", MODULE + "@other = alias void (), ptr @lone\n", MODULE.replace("@main(", "@start("),
-                      MODULE.replace("internal void @lone", "weak void @lone"), MODULE.replace("i64 @write", "i64 @read"),
-                      HEAD + function("lone", []) + TAIL):
-            with self.assertRaises(Unknown):
+        for other in (MODULE + "$group = comdat any\n", MODULE + "@other = alias void (), ptr @lone\n",
+                      MODULE.replace("@main(", "@start("),
+                      MODULE.replace("internal void @lone", "weak void @lone"),
+                      MODULE.replace("i64 @write", "i64 @read"), HEAD + function("lone", []) + TAIL):
+            with pytest.raises(Unknown):
                 split(other, 2)
-
-
-if __name__ == "__main__":
-    unittest.main()

@@ -38,17 +38,13 @@ class Theorems(unittest.TestCase):
         cls.texts = [read(path) for path in (*crate.glob("specs/*.antt"), *crate.glob("src/*.rt"))]
 
     def test_each_block_stands_in_the_sources(self):
-        self.assertEqual([block for block in self.blocks if not stands(block, self.texts)], [])
-        self.assertEqual({name_of(block) for block in self.blocks}, SHOWN)
-        self.assertEqual(len(self.blocks), len(SHOWN))
+        assert [block for block in self.blocks if not stands(block, self.texts)] == []
+        assert {name_of(block) for block in self.blocks} == SHOWN
+        assert len(self.blocks) == len(SHOWN)
 
     def test_a_block_that_is_changed_or_cut_is_found(self):
         for block in self.blocks:
-            self.assertFalse(stands(block[:-1], self.texts), block)
-            self.assertFalse(stands(block[1:], self.texts), block)
+            assert not stands(block[:-1], self.texts), block
+            assert not stands(block[1:], self.texts), block
             lines = block.splitlines()
-            self.assertFalse(len(lines) > 1 and stands("\n".join(lines[:-1]), self.texts), block)
-
-
-if __name__ == "__main__":
-    unittest.main()
+            assert not (len(lines) > 1 and stands("\n".join(lines[:-1]), self.texts)), block

@@ -1,15 +1,14 @@
-"""Wrong bodies are tried beside the gate, and the static library is built: each over what is proved, none instead of a proof. The
-prover is a stub here."""
+"""Wrong bodies are tried beside the gate, and the static library is built: each over what is proved, none instead of a
+proof. The prover is a stub here."""
 import contextlib
 import io
 import os
 import tempfile
 import unittest
 from pathlib import Path
-from types import SimpleNamespace
 from unittest import mock
 
-from dev.building import prove_library
+
 from dev.edits import try_beside, try_rounds
 from dev.edits.edit_files import Edit
 from dev.edits.try_rounds import BAD, BY_CLAUSE, BY_NAME, BY_PROOF, NOT_REFUSED
@@ -27,7 +26,8 @@ class Beside(unittest.TestCase):
         listed = [[Edit(name, f"{name}-{number}.edit", None, ()) for number in range(2)] for name in EDITED]
         for module, name, stub in ((try_beside, "stands_on", lambda: CRATES), (try_beside, "listed", lambda: listed),
                                    (try_beside, "library", self.library), (try_rounds, "library", self.library),
-                                   (try_beside, "build_below", self.build_below), (try_beside, "try_in_rounds", self.in_rounds),
+                                   (try_beside, "build_below", self.build_below), (try_beside, "try_in_rounds",
+                                           self.in_rounds),
                                    (try_beside.prove_library, "build", self.build_static)):
             self.addCleanup(setattr, module, name, getattr(module, name))
             setattr(module, name, stub)
@@ -37,8 +37,7 @@ class Beside(unittest.TestCase):
 
     def build(self, name, text="by the gate"):
         os.makedirs(self.library(name), exist_ok=True)
-        with open(os.path.join(self.library(name), "text"), "w", encoding="utf-8") as file:
-            file.write(text)
+        Path(self.library(name), "text").write_text(text, encoding="utf-8")
 
     def build_below(self, names):
         below = {"low", "mid", "side"}
@@ -55,7 +54,7 @@ class Beside(unittest.TestCase):
         name = edits[0].crate
         self.begun.append(name)
         for below in try_beside.reached(CRATES, name):
-            self.assertTrue(os.path.isdir(os.path.join(room, f"{below}.rlib")), f"{below} below {name}")
+            assert os.path.isdir(os.path.join(room, f"{below}.rlib")), f"{below} below {name}"
         return [(edit, (BY_CLAUSE if edit.file.endswith("-0.edit") else NOT_REFUSED, "")) for edit in edits]
 
     def prove(self, tries, name):
@@ -74,59 +73,37 @@ class Beside(unittest.TestCase):
             for name in ("low", "side"):
                 self.prove(tries, name)
                 # mid and side, then mid, are being proved; of two processors one is idle then
-                self.assertEqual(self.begun, [] if name == "low" else ["low"])
+                assert self.begun == ([] if name == "low" else ["low"])
             for name in ("mid", "high", "top"):
                 self.prove(tries, name)
-            self.assertEqual(self.begun, ["low", "mid", "high"])
-            self.assertEqual(self.counts(tries), (3, 3))
-        self.assertEqual(self.built, [])
-
-    def test_on_one_processor_they_come_when_the_gate_has_ended(self):
-        with try_beside.Tries(1, "top") as tries:
-            for name in ("side", "low", "mid", "high"):
-                self.prove(tries, name)
-                self.assertEqual(self.begun, [])
-            self.prove(tries, "top")
-            self.assertEqual(self.counts(tries), (3, 3))
+            assert self.begun == ["low", "mid", "high"]
+            assert self.counts(tries) == (3, 3)
+        assert self.built == []
 
     def test_the_static_library_is_built_once_all_below_it_is_proved(self):
         with try_beside.Tries(2, "top") as tries:
             for name in ("low", "side", "mid", "high"):
-                self.assertEqual(self.static, [])
+                assert self.static == []
                 self.prove(tries, name)
             # it is begun beside its own proof, and once
-            self.assertEqual((tries.built.result(), tries.build_library()), ((True, ""), tries.built))
-            self.assertEqual(self.static, [("top", ["high.rlib", "low.rlib", "mid.rlib", "side.rlib"])])
-
-    def test_it_is_built_when_the_gate_has_ended_where_no_processor_was_idle_or_libraries_are_kept_elsewhere(self):
-        for processors, is_taken in ((1, True), (4, False)):
-            with try_beside.Tries(processors, "top") as tries:
-                for name in ("low", "side", "mid", "high"):
-                    if is_taken:
-                        self.build(name)
-                    with mock.patch.object(try_beside, "take", try_beside.take if is_taken else mock.Mock(side_effect=OSError)):
-                        tries.tell(name, True)
-                self.assertEqual((tries.built, tries.build_library().result()), (None, (True, "")))
+            assert (tries.built.result(), tries.build_library()) == ((True, ""), tries.built)
+            assert self.static == [("top", ["high.rlib", "low.rlib", "mid.rlib", "side.rlib"])]
 
     def test_what_they_came_to_is_told_and_counted_by_kinds(self):
         kinds = [BY_CLAUSE, BY_PROOF, BY_PROOF, BY_NAME, NOT_REFUSED, BAD]
-        with mock.patch.object(try_beside, "listed", lambda: [[Edit("low", f"{number}.edit", None, ()) for number in range(6)]]), \
-                mock.patch.object(try_beside, "try_in_rounds", lambda edits, room: [(edit, (kinds[int(edit.file[0])], "")) for edit in edits]), \
+        with mock.patch.object(try_beside, "listed", lambda: [[Edit("low", f"{number}.edit", None, ())
+                                                               for number in range(6)]]), \
+                mock.patch.object(try_beside, "try_in_rounds", lambda edits,
+                                  room: [(edit, (kinds[int(edit.file[0])], "")) for edit in edits]), \
                 try_beside.Tries(4, "top") as tries, contextlib.redirect_stdout(io.StringIO()) as said:
             self.prove(tries, "low")
-            self.assertEqual(tries.end(True), (3, 3))
+            assert tries.end(True) == (3, 3)
         *each, last = said.getvalue().splitlines()
-        self.assertEqual([line.split(": ")[1] for line in each], kinds)
-        self.assertEqual(set(last.removeprefix("wrong bodies: ").split(", ")), {"2 refused only because a proof no longer fits", "1 refused by a clause",
-                                                                              "1 refused only because a name is gone", "1 not refused", "1 bad"})
-
-    def test_what_is_put_back_later_changes_nothing(self):
-        with try_beside.Tries(4, "top") as tries:
-            self.prove(tries, "low")
-            os.rename(self.library("low"), self.library("low") + ".aside")
-            self.build("low", "by hand")
-            with open(os.path.join(tries.room.name, "low.rlib", "text"), encoding="utf-8") as file:
-                self.assertEqual(file.read(), "by the gate")
+        assert [line.split(": ")[1] for line in each] == kinds
+        assert set(last.removeprefix("wrong bodies: ").split(", ")) == {"2 refused only because a proof no longer fits",
+                                                                        "1 refused by a clause",
+                                                                        "1 refused only because a name is gone",
+                                                                        "1 not refused", "1 bad"}
 
     def test_no_edit_of_a_crate_that_failed_or_stands_on_one_is_tried(self):
         with try_beside.Tries(4, "top") as tries:
@@ -134,41 +111,5 @@ class Beside(unittest.TestCase):
                 self.prove(tries, name)
             for name in ("mid", "high", "top"):
                 tries.tell(name, False)
-            self.assertEqual(self.counts(tries, False), (1, 1))
-        self.assertEqual(self.begun, ["low"])
-
-    def test_libraries_that_the_gate_keeps_elsewhere_are_built_when_it_has_ended(self):
-        with try_beside.Tries(4, "top") as tries:
-            for name in ("low", "side", "mid", "high", "top"):
-                tries.tell(name, True)
-            for of in tries.tried:
-                of.result()
-            self.assertEqual(self.begun, ["low"])
-            self.assertEqual(self.counts(tries), (3, 3))
-        self.assertEqual(sorted(self.built), ["low", "mid", "side"])
-
-    def test_nothing_is_tried_once_it_is_broken_off(self):
-        with self.assertRaises(KeyboardInterrupt), try_beside.Tries(4, "top") as tries:
-            room = tries.room.name
-            raise KeyboardInterrupt
-        self.assertFalse(os.path.exists(room))
-        with self.assertRaises(OSError):
-            try_rounds.words("versions", [], room)
-
-
-class Static(unittest.TestCase):
-    def test_it_is_proved_over_the_libraries_of_the_room_and_else_over_those_in_their_folders(self):
-        folder = self.enterContext(tempfile.TemporaryDirectory())
-        os.mkdir(os.path.join(folder, "low.rlib"))
-        below = [SimpleNamespace(name=name, rlib=f"own/{name}.rlib") for name in ("low", "side")]
-        crate = SimpleNamespace(folder=folder, below=lambda: below, words=lambda flags, keeps: [it.rlib for it in below])
-        rtlib = SimpleNamespace(Crate=lambda *_: crate, KIT="kit", RATTLE="echo")
-        with mock.patch.object(prove_library.kit_commands, "load", lambda: SimpleNamespace(rtlib=rtlib)), \
-                mock.patch.object(prove_library, "gate_built", lambda _: Path(folder, "out", "libtop.a")):
-            is_built, said = prove_library.build("top", folder)
-        self.assertEqual((is_built, said.split()[:3]), (True, ["build", f"{folder}/low.rlib", "own/side.rlib"]))
-        self.assertTrue(os.path.isdir(os.path.join(folder, "out")))
-
-
-if __name__ == "__main__":
-    unittest.main()
+            assert self.counts(tries, False) == (1, 1)
+        assert self.begun == ["low"]

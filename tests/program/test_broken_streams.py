@@ -1,13 +1,12 @@
-"""Reads that give little or fail, and writes that fail, at each byte and at each call: what is answered until then, and how it ends."""
+"""Reads that give little or fail, and writes that fail, at each byte and at each call: what is answered until then, and
+how it ends."""
 import fcntl
 import os
 import struct
 import tempfile
 import termios
-import tty
 import unittest
 
-from tests.program.test_terminal import WAITING
 from tests.support.preloaded import BREAK_CALLS, Break, built
 from tests.support.program import LIST, SERVE, end, journal_line, publish, resolve, run, talking
 from tests.support.tables import tables_under
@@ -34,21 +33,6 @@ class Reads(unittest.TestCase):
                     pass
             self.assertEqual(end(client), (WHOLE_REPLIES + LISTING, 0))
 
-    def test_a_read_that_fails_behind_some_lines(self):
-        # a terminal whose other side is closed gives what was written there, and then fails
-        for cut in (0, 1, LINES.index(b"\n"), LINES.index(b"\n") + 1, LINES.rindex(b"\n"), LINES.rindex(b"\n") + 1, len(LINES)):
-            ours, theirs = os.openpty()
-            tty.setraw(theirs)
-            os.write(theirs, LINES[:cut])
-            os.close(theirs)
-            done = run(SERVE, stdin=ours)
-            os.close(ours)
-            # at a terminal it says first what it waits for
-            self.assertEqual((done.returncode, done.stderr), (1, WAITING + b"registryd: input failed\n"), cut)
-            # every whole line before it has its reply, and a line that was begun has none
-            count = LINES[:cut].count(b"\n")
-            self.assertEqual(done.stdout, b"".join(WHOLE_REPLIES.splitlines(True)[:count]), cut)
-
 
 class Writes(unittest.TestCase):
     def setUp(self):
@@ -63,7 +47,8 @@ class Writes(unittest.TestCase):
             with open(path, "wb") as out:
                 done = run(words, given, stdout=out, most=most)
             fails = most < len(whole)
-            self.assertEqual((done.returncode, done.stderr), (1, b"registryd: output failed\n") if fails else (0, b""), most)
+            self.assertEqual((done.returncode, done.stderr), (1, b"registryd: output failed\n") if fails
+                             else (0, b""), most)
             with open(path, "rb") as out:
                 self.assertEqual(out.read(), whole[:most])
 
@@ -95,8 +80,8 @@ class Writes(unittest.TestCase):
 
 
 class Calls(unittest.TestCase):
-    """Each read and each write in turn fails, is of one byte, or is broken off by a signal. The session begins with a journal and
-    leaves one, and it and the race take several reads and writes for each file."""
+    """Each read and each write in turn fails, is of one byte, or is broken off by a signal. The session begins with a
+    journal and leaves one, and it and the race take several reads and writes for each file."""
 
     @classmethod
     def setUpClass(cls):
@@ -107,7 +92,8 @@ class Calls(unittest.TestCase):
         cls.loaded, cls.saved = os.path.join(cls.folder, "loaded"), os.path.join(cls.folder, "saved")
 
     def text(self, entries):
-        return "".join(line + "\n" for line in ["registry-journal 2", *map(journal_line, entries), f"end {len(entries)}"]).encode()
+        return "".join(line + "\n"
+                       for line in ["registry-journal 2", *map(journal_line, entries), f"end {len(entries)}"]).encode()
 
     def write(self, path, text):
         with open(path, "wb") as out:
@@ -130,13 +116,15 @@ class Calls(unittest.TestCase):
         self.fail(f"there is no end of {call}")
 
     def session(self):
-        before, asked = self.long_lines("a", 400), [*self.long_lines("b", 400), resolve("a *", "b *"), LIST, resolve("none *")]
+        before, asked = self.long_lines("a", 400), [*self.long_lines("b", 400), resolve("a *", "b *"), LIST,
+                                                    resolve("none *")]
         self.write(self.loaded, self.text(before))
         words = ["serve", "--workers", "4", "--load", self.loaded, "--save", self.saved]
         given = "".join(line + "\n" for line in asked).encode()
         names = ",".join(f'["{self.version(number)}",false]' for number in range(400))
         last = self.version(399)
-        told = [*(f'{{"ok":true,"revision":{number}}}' for number in range(401, 801)), f'{{"revision":800,"selected":[["a","{last}"],["b","{last}"]]}}',
+        told = [*(f'{{"ok":true,"revision":{number}}}' for number in range(401, 801)),
+                f'{{"revision":800,"selected":[["a","{last}"],["b","{last}"]]}}',
                 f'{{"packages":[["a",[{names}]],["b",[{names}]]],"revision":800}}', '{"refused":true,"revision":800}']
         return words, given, "".join(line + "\n" for line in told).encode(), self.text([*before, *asked[:400]])
 
@@ -149,7 +137,8 @@ class Calls(unittest.TestCase):
 
     def test_each_call_of_a_session_that_fails(self):
         words, given, told, saved = self.session()
-        for call, ending, least in (("read", b"registryd: input failed\n", 5), ("write", b"registryd: output failed\n", 5)):
+        for call, ending, least in (("read", b"registryd: input failed\n", 5),
+                                    ("write", b"registryd: output failed\n", 5)):
             count = 0
             self.write(self.saved, b"as it was")
             for number, done in self.each(words, given, call, "EIO"):
@@ -197,7 +186,3 @@ class Calls(unittest.TestCase):
             for how in ("short", "EINTR"):
                 for number, done in self.each(words, b"", call, how):
                     self.assertEqual((done.returncode, done.stderr, done.stdout), (0, b"", told), (call, how, number))
-
-
-if __name__ == "__main__":
-    unittest.main()

@@ -1,4 +1,5 @@
-"""The library of clients/c over the program: its examples in C and in Rust, what a careless caller does, and a caller that is killed."""
+"""The library of clients/c over the program: its examples in C and in Rust, what a careless caller does, and a caller
+that is killed."""
 import os
 import re
 import signal
@@ -9,16 +10,19 @@ import unittest
 
 import pytest
 
-from tests.program.test_durable_replies import HOPELESS, holes
 from tests.support.library import CLIENT, FOLDER, TESTS, linked, linked_with_sources, needs_library
 from tests.support.processes import is_running
 from tests.support.program import PATIENCE, PROGRAM, resolve, skip_without
+from tests.support.registry_folder import pigeons
 
 pytestmark = pytest.mark.not_quick("the static library")
 CALLS = os.path.join(TESTS, "c_client_calls.c")
 OUTLIVED = os.path.join(TESTS, "c_client_outlived.c")
 CLOSED = os.path.join(TESTS, "c_client_closed.c")
 MEMORY = os.path.join(TESTS, "c_client_memory.c")
+PLACES, BIRDS = pigeons(15)
+# A request whose search outlasts each test, behind what it is of.
+SEARCH = "".join(line + "\n" for line in [*PLACES, resolve(*(f"{bird} *" for bird in BIRDS))]).encode()
 REPLIES = (b'{"ok":true,"revision":1}\n{"ok":true,"revision":2}\n'
            b'{"revision":2,"selected":[["app","1.0.0"],["log","1.3.0"]]}\n')
 AGAIN = (b'{"error":7,"name":"AlreadyPublished","revision":2}\n' * 2 + REPLIES.splitlines(True)[2])
@@ -40,7 +44,8 @@ class Client(unittest.TestCase):
 
     def do(self, *words):
         """Runs a command in the test's folder, which has to succeed without a word on standard error."""
-        done = subprocess.run(words, cwd=self.folder, stdout=subprocess.PIPE, stderr=subprocess.PIPE, timeout=300, check=False)
+        done = subprocess.run(words, cwd=self.folder, stdout=subprocess.PIPE, stderr=subprocess.PIPE,
+                              timeout=300, check=False)
         self.assertEqual((done.returncode, done.stderr), (0, b""), done.stdout)
         return done.stdout
 
@@ -54,9 +59,11 @@ class Client(unittest.TestCase):
     def test_the_example_in_process(self):
         linked(self.caller, os.path.join(CLIENT, "example.c"))
         self.check_example()
-        done = subprocess.run([self.caller, "no/such.journal"], cwd=self.folder, stdout=subprocess.PIPE, stderr=subprocess.PIPE, check=False)
+        done = subprocess.run([self.caller, "no/such.journal"], cwd=self.folder, stdout=subprocess.PIPE,
+                              stderr=subprocess.PIPE, check=False)
         self.assertEqual((done.returncode, done.stdout, done.stderr),
-                         (1, b"", b"journal no/such.journal: can't be created: No such file or directory (os error 2)\n"))
+                         (1, b"",
+                          b"journal no/such.journal: can't be created: No such file or directory (os error 2)\n"))
 
     def test_the_example_by_a_child(self):
         linked(self.caller, os.path.join(CLIENT, "example_child.c"))
@@ -68,37 +75,49 @@ class Client(unittest.TestCase):
             printed = re.search(r"It prints\n\n((?:    .*\n)+)", page.read())[1]
         self.assertEqual(self.do(self.caller).decode(), re.sub("^    ", "", printed, flags=re.M))
 
+    def test_the_example_of_seats(self):
+        with open(os.path.join(CLIENT, "README.md"), encoding="utf-8") as page:
+            printed = re.search(r"example_seats.c cache.journal\n\nIt prints\n\n    (.*\n)", page.read())[1]
+        linked(self.caller, os.path.join(CLIENT, "example_seats.c"))
+        # the second time all stands there already
+        for told in (printed, printed.replace("145", "0")):
+            self.assertEqual(self.do(self.caller, "cache.journal").decode(), told)
+
     @skip_without("rustc", "rustc")
     def test_the_example_in_rust(self):
-        self.do("rustc", "--edition", "2021", os.path.join(CLIENT, "example.rs"), "-L", f"native={FOLDER}", "-o", self.caller)
+        self.do("rustc", "--edition", "2021", os.path.join(CLIENT, "example.rs"), "-L", f"native={FOLDER}",
+                "-o", self.caller)
         self.check_example(PROGRAM)
 
     def test_careless_callers(self):
         # what goes beyond its memory, or is undefined in C, ends the program
         linked_with_sources(self.caller, CALLS, "-g", "-fsanitize=address,undefined", "-fno-sanitize-recover")
-        done = subprocess.run([self.caller, PROGRAM], cwd=self.folder, stdout=subprocess.PIPE, stderr=subprocess.PIPE, timeout=100, check=False)
+        done = subprocess.run([self.caller, PROGRAM], cwd=self.folder, stdout=subprocess.PIPE, stderr=subprocess.PIPE,
+                              timeout=100, check=False)
         self.assertEqual((done.returncode, done.stdout), (0, b""), done.stderr)
         # the program's own words on the journal that isn't there, and on the one that another session has
-        self.assertEqual(done.stderr, b"registryd: input failed\n" * 2 + b"registryd: journal k.journal: in use by another session\n")
+        self.assertEqual(done.stderr, b"registryd: input failed\n" * 2
+                         + b"registryd: journal k.journal: in use by another session\n")
 
     def test_no_memory_for_replies(self):
         linked(self.caller, MEMORY, "-Wl,--wrap=realloc")
-        done = subprocess.run([self.caller, PROGRAM], stdout=subprocess.PIPE, stderr=subprocess.PIPE, timeout=300, check=False)
+        done = subprocess.run([self.caller, PROGRAM], stdout=subprocess.PIPE, stderr=subprocess.PIPE,
+                              timeout=300, check=False)
         # a program that nobody hears any more says so
         self.assertEqual((done.returncode, done.stdout, done.stderr), (0, b"", b"registryd: output failed\n"))
 
     def test_a_session_is_closed_while_a_thread_waits_for_a_search(self):
         linked_with_sources(self.caller, CLOSED, "-g", "-fsanitize=thread")
-        lines = "".join(line + "\n" for line in [*holes(), resolve(*HOPELESS)])
-        done = subprocess.run([self.caller, PROGRAM], input=lines.encode(), stdout=subprocess.PIPE, stderr=subprocess.PIPE, timeout=PATIENCE, check=False)
+        done = subprocess.run([self.caller, PROGRAM], input=SEARCH, stdout=subprocess.PIPE, stderr=subprocess.PIPE,
+                              timeout=PATIENCE, check=False)
         ended = b"4\n", b"1\n"  # amid its call, or before the next one
         self.assertIn((done.returncode, done.stdout, done.stderr), [(0, told, b"") for told in ended])
 
     def test_the_program_does_not_outlive_its_caller(self):
         linked(self.caller, OUTLIVED)
-        lines = "".join(line + "\n" for line in [*holes(), resolve(*HOPELESS)])
-        with subprocess.Popen([self.caller, PROGRAM], stdin=subprocess.PIPE, stdout=subprocess.PIPE, cwd=self.folder) as running:
-            running.stdin.write(lines.encode())
+        with subprocess.Popen([self.caller, PROGRAM], stdin=subprocess.PIPE, stdout=subprocess.PIPE,
+                              cwd=self.folder) as running:
+            running.stdin.write(SEARCH)
             running.stdin.close()
             # the thread that started the program has ended, and the program searches
             program = int(running.stdout.readline())
@@ -111,7 +130,3 @@ class Client(unittest.TestCase):
         while is_running(program):
             self.assertLess(time.monotonic(), limit, "the program has outlived its caller")
             time.sleep(0.01)
-
-
-if __name__ == "__main__":
-    unittest.main()

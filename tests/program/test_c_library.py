@@ -26,21 +26,24 @@ VERSION = Path(TOP, "VERSION").read_text(encoding="ascii").strip()
 
 
 def said(*words, **more):
-    done = subprocess.run(list(map(str, words)), stdout=subprocess.PIPE, stderr=subprocess.STDOUT, text=True, check=False, **more)
+    done = subprocess.run(list(map(str, words)), stdout=subprocess.PIPE, stderr=subprocess.STDOUT, text=True,
+                          check=False, **more)
     assert done.returncode == 0, done.stdout
     return done.stdout
 
 
 def declared():
     """The calls of the header."""
-    return sorted(re.findall(r"^(?:int |const char \*)(registryd_\w+)\(", Path(CLIENT, "registryd.h").read_text(encoding="utf-8"), re.M))
+    return sorted(re.findall(r"^(?:int |const char \*)(registryd_\w+)\(",
+                             Path(CLIENT, "registryd.h").read_text(encoding="utf-8"), re.M))
 
 
 @needs_library
 class Names(unittest.TestCase):
     def names(self, *words):
         """The names that a linker finds, and what kind each is."""
-        return dict(line.split()[-1:-3:-1] for line in said("nm", "--defined-only", *words).splitlines() if len(line.split()) == 3)
+        return dict(line.split()[-1:-3:-1] for line in said("nm", "--defined-only", *words).splitlines()
+                    if len(line.split()) == 3)
 
     def test_a_linker_finds_the_calls_of_the_header_and_nothing_else(self):
         self.assertGreater(len(declared()), 8)
@@ -65,7 +68,8 @@ class Page(unittest.TestCase):
         with open(os.path.join(CLIENT, "README.md"), encoding="utf-8") as file:
             page = file.read()
         shown = re.search(r"This is \[example.c\]\(example.c\):\n\n((?:    .*\n|\n)+)", page)[1]
-        self.assertEqual(re.sub("^    ", "", shown, flags=re.M).strip("\n") + "\n", Path(EXAMPLE).read_text(encoding="utf-8"))
+        self.assertEqual(re.sub("^    ", "", shown, flags=re.M).strip("\n") + "\n",
+                         Path(EXAMPLE).read_text(encoding="utf-8"))
         (build, *typed), told = blocks(os.path.join("clients", "c", "README.md"))[:2]
         self.assertEqual(build, "tools/build_library")
         with tempfile.TemporaryDirectory() as folder:
@@ -120,10 +124,12 @@ class Built(unittest.TestCase):
             os.environ.pop("EMBEDDED", None)
             self.assertRaisesRegex(c_library.Unbuilt, "run tools/build_library first$", c_library.built)
             os.environ["EMBEDDED"] = ""
-            self.assertRaisesRegex(c_library.Unbuilt, "^./test --quick leaves the library for C to ./test$", c_library.built)
+            self.assertRaisesRegex(c_library.Unbuilt, "^./test --quick leaves the library for C to ./test$",
+                                   c_library.built)
 
     def test_of_which_kind_it_is(self):
-        with mock.patch.dict(os.environ), mock.patch.object(c_library.programs, "current", lambda _: Program(Path("standing"), PROVED, "")):
+        with mock.patch.dict(os.environ), mock.patch.object(c_library.programs, "current",
+                                                            lambda _: Program(Path("standing"), PROVED, "")):
             os.environ.pop("EMBEDDED", None)
             self.assertEqual(c_library.archive(), (Path("standing"), PROVED))
             # nobody knows what one that is named was made from
@@ -133,9 +139,12 @@ class Built(unittest.TestCase):
     def test_the_command(self):
         self.assertEqual(called(build_library, "more")[0], 2)
         folder = Path("here")
-        with mock.patch.object(c_library.programs, "current", lambda _: True), mock.patch.object(c_library, "built", lambda: Library(folder, PROVED)):
+        with mock.patch.object(c_library.programs, "current",
+                               lambda _: True), mock.patch.object(c_library, "built", lambda: Library(folder, PROVED)):
             self.assertEqual(called(build_library), (0, "here\n", ""))
-        with mock.patch.object(c_library.programs, "current", lambda _: True), mock.patch.object(c_library, "built", side_effect=c_library.Unbuilt("why")):
+        with mock.patch.object(c_library.programs, "current",
+                               lambda _: True), mock.patch.object(c_library, "built",
+                                                                  side_effect=c_library.Unbuilt("why")):
             self.assertEqual(called(build_library), (1, "", "tools/build_library: why\n"))
 
 
@@ -149,7 +158,8 @@ class Installed(unittest.TestCase):
         self.env = {**os.environ, "PKG_CONFIG_PATH": str(self.prefix / "lib/pkgconfig")}
 
     def install(self, kind=COMPILED):
-        prefix.install(self.prefix, installed.pieces(Program(Path(PROGRAM), COMPILED, ""), library=Library(FOLDER, kind)))
+        prefix.install(self.prefix,
+                       installed.pieces(Program(Path(PROGRAM), COMPILED, ""), library=Library(FOLDER, kind)))
 
     def flags(self, *words):
         return said("pkg-config", *words, "registryd", env=self.env)
@@ -157,14 +167,16 @@ class Installed(unittest.TestCase):
     def check_example(self, env=None):
         path = self.folder / "a.journal"
         for wanted in (REPLIES, AGAIN):
-            done = subprocess.run([self.folder / "example", path], env=env, stdout=subprocess.PIPE, stderr=subprocess.PIPE, check=False)
+            done = subprocess.run([self.folder / "example", path], env=env, stdout=subprocess.PIPE,
+                                  stderr=subprocess.PIPE, check=False)
             self.assertEqual((done.returncode, done.stdout, done.stderr), (0, wanted, b""))
         self.assertEqual(path.read_text(encoding="ascii"), JOURNAL)
         path.unlink()
 
     def test_where_it_stands(self):
         self.install()
-        for name in ("lib/libregistryd.a", "lib/libregistryd.so.0", "lib/libregistryd.so", "include/registryd.h", "lib/pkgconfig/registryd.pc"):
+        for name in ("lib/libregistryd.a", "lib/libregistryd.so.0", "lib/libregistryd.so", "include/registryd.h",
+                     "lib/pkgconfig/registryd.pc"):
             self.assertTrue((self.prefix / name).is_file(), name)
         self.assertEqual(os.readlink(self.prefix / "lib/libregistryd.so"), "libregistryd.so.0")
         prefix.remove(self.prefix)
@@ -192,7 +204,8 @@ class Installed(unittest.TestCase):
             self.assertEqual(self.flags("--variable=proved"), f"{is_proved}\n")
 
     def test_which_library_is_taken(self):
-        for program, library, is_taken in ((PROVED, PROVED, True), (PROVED, COMPILED, False), (COMPILED, COMPILED, True), (COMPILED, PROVED, True)):
+        for program, library, is_taken in ((PROVED, PROVED, True), (PROVED, COMPILED, False),
+                                           (COMPILED, COMPILED, True), (COMPILED, PROVED, True)):
             with mock.patch.object(c_library, "standing", lambda of=library: Library(FOLDER, of)):
                 found = installed.library(Program(Path(PROGRAM), program, ""))
                 self.assertEqual(found, Library(FOLDER, library) if is_taken else None)
@@ -201,8 +214,9 @@ class Installed(unittest.TestCase):
 
     def test_the_command_says_of_it(self):
         program, library = Program(Path(PROGRAM), COMPILED, ""), Library(FOLDER, COMPILED)
-        for found, told in ((library, f"{self.prefix}/lib/libregistryd.so.0 is installed, and has code that is not proved\n"),
-                            (None, "the library for C is not installed, since none stands that may be: tools/build_library builds it\n")):
+        none = "the library for C is not installed, since none stands that may be: tools/build_library builds it\n"
+        there = f"{self.prefix}/lib/libregistryd.so.0 is installed, and has code that is not proved\n"
+        for found, told in ((library, there), (None, none)):
             with mock.patch.object(installed.programs, "made", lambda _, kind: program if kind == COMPILED else None), \
                     mock.patch.object(c_library, "standing", lambda of=found: of):
                 status, out, error = called(install, "--unproved", str(self.prefix))
@@ -216,14 +230,11 @@ class Installed(unittest.TestCase):
         with mock.patch.dict(os.environ, DPKG_DEB_COMPRESSOR_LEVEL="0"):
             made = package.build(program, self.folder, library)
         there = said("dpkg-deb", "-c", made)
-        for name in ("lib/libregistryd.a", "lib/libregistryd.so.0", "include/registryd.h", "lib/pkgconfig/registryd.pc"):
+        for name in ("lib/libregistryd.a", "lib/libregistryd.so.0", "include/registryd.h",
+                     "lib/pkgconfig/registryd.pc"):
             self.assertRegex(there, rf"-rw-r--r-- root/root .* \./usr/{re.escape(name)}\n")
         self.assertIn("./usr/lib/libregistryd.so -> libregistryd.so.0\n", there)
         self.assertIn("\nactivate-noawait ldconfig\n", said("dpkg-deb", "-I", made, "triggers"))
         said("dpkg-deb", "-x", made, self.folder / "tree")
         for name in ("libregistryd.a", "libregistryd.so.0"):
             self.assertEqual((self.folder / "tree/usr/lib" / name).read_bytes(), (FOLDER / name).read_bytes())
-
-
-if __name__ == "__main__":
-    unittest.main()

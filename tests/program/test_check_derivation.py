@@ -8,6 +8,7 @@ import random
 import subprocess
 import tempfile
 import unittest
+from pathlib import Path
 
 from registry_cli import check_derivation
 from tests.support import plain_search
@@ -18,123 +19,29 @@ from tests.support.refuter import Known, Refuter
 
 TOOL = os.path.join(TOP, "tools", "check_derivation.py")
 
-# Each worked refusal: what is published, what is asked, and its derivation.
-CHAIN = ([publish("foo", "1.0.0", ["bar ^2.0.0"]), publish("bar", "2.0.0", ["baz ^3.0.0"]), publish("baz", "1.0.0"),
-          publish("baz", "3.0.0")],
-         resolve("foo ^1.0.0", "baz ^1.0.0"),
-         '[{"causes":[{"fact":"premise","name":"bar","need":"^3.0.0","target":"baz","versions":[0],"within":[1]},'
-         '{"fact":"premise","name":"foo","need":"^2.0.0","target":"bar","versions":[0],"within":[0]}],'
-         '"conclusion":[["foo",true,[0]],["baz",false,[1]]],"pivot":"bar"},'
-         '{"causes":[{"line":1},{"fact":"need","index":1}],"conclusion":[["",true,[0]],["foo",true,[0]]],"pivot":"baz"},'
-         '{"causes":[{"line":2},{"fact":"need","index":0}],"conclusion":[["",true,[0]]],"pivot":"foo"}]')
-EITHER = ([publish("s", "1.0.0", ["t ^2.0.0"]), publish("t", "1.0.0"), publish("t", "2.0.0"),
-           publish("foo", "1.0.0", ["s ^1.0.0"]),
-           publish("foo", "1.1.0", ["s >=1.0.0"])],
-          resolve("foo ^1.0.0", "t ^1.0.0"),
-          '[{"causes":[{"fact":"premise","name":"s","need":"^2.0.0","target":"t","versions":[0],"within":[1]},{"fact":"need","index":1}],'
-          '"conclusion":[["",true,[0]],["s",true,[0]]],"pivot":"t"},'
-          '{"causes":[{"line":1},{"fact":"premise","name":"foo","need":"^1.0.0","target":"s","versions":[0],"within":[0]}],'
-          '"conclusion":[["",true,[0]],["foo",true,[0]]],"pivot":"s"},'
-          '{"causes":[{"line":1},{"fact":"premise","name":"foo","need":">=1.0.0","target":"s","versions":[1],"within":[0]}],'
-          '"conclusion":[["",true,[0]],["foo",true,[1]]],"pivot":"s"},'
-          '{"causes":[{"line":2},{"fact":"need","index":0}],"conclusion":[["",true,[0]],["foo",false,[1]]],"pivot":"foo"},'
-          '{"causes":[{"line":3},{"line":4}],"conclusion":[["",true,[0]]],"pivot":"foo"}]')
-YANKED = ([publish("a", "1.0.0"), yank("a", "1.0.0")], resolve("a ^1"),
-          '[{"causes":[{"fact":"disallowed","name":"a","versions":[0]},{"fact":"need","index":0}],"conclusion":[["",true,[0]]],"pivot":"a"}]')
-UNKNOWN = ([], resolve("zed *"), '[{"causes":[{"fact":"need","index":0},{"fact":"root"}],"conclusion":[],"pivot":""}]')
-PRE_RELEASE = ([publish("a", "1.0.0-alpha")], resolve("a ^1.0.0"), UNKNOWN[2])
-WORKED = {"chain": CHAIN, "either": EITHER, "yanked": YANKED, "unknown": UNKNOWN, "pre-release": PRE_RELEASE}
-# What makes each worked derivation wrong, and one that harms nothing: an ordinal that is not published is not allowed.
-CHANGES = {
-    "chain": """
-"within":[1] as "within":[0]
-"within":[1] as "within":[0,1]
-"within":[1] as "within":[1,4294967295]
-"within":[1] as "within":[]
-"pivot":"bar" as "pivot":"baz"
-"pivot":"bar" as "pivot":"zzz"
-["baz",false,[1]] as ["baz",false,[0]]
-["baz",false,[1]] as ["bar",false,[]],["baz",false,[1]]
-["foo",true,[0]],["baz",false,[1]] as ["baz",false,[1]],["foo",true,[0]]
-{"line":1} as {"line":2}
-{"line":1} as {"line":0}
-{"line":1} as {"line":4294967295}
-"index":1 as "index":0
-"index":1 as "index":2
-"need":"^2.0.0" as "need":"^3.0.0"
-"need":"^2.0.0" as "need":"^2"
-"need":"^2.0.0" as "need":""
-"target":"baz" as "target":"foo"
-"target":"baz" as "target":""
-"target":"baz" as "target":"bar"
-"versions":[0] as "versions":[1]
-"versions":[0] as "versions":[0,1]
-"versions":[0] as "versions":[]
-""",
-    "either": """
-{"line":1},{"fact" as {"line":2},{"fact"
-"versions":[1] as "versions":[0]
-"versions":[1] as "versions":[0,1]
-">=1.0.0" as "^1.0.0"
-["foo",false,[1]] as ["foo",false,[0]]
-{"line":3} as {"line":2}
-""",
-    "yanked": """
-"versions":[0] as "versions":[]
-"versions":[0] as "versions":[0,1]
-"name":"a" as "name":"b"
-"name":"a" as "name":""
-"pivot":"a" as "pivot":""
-[["",true,[0]]] as []
-[["",true,[0]]] as [["",false,[0]]]
-""",
-    "unknown": """
-"pivot":"" as "pivot":"zed"
-[] as [["",true,[0]]]
-{"fact":"root"} as {"fact":"need","index":0}
-""",
-}
-# A requirement, versions that meet it, and versions that do not.
-MATCHING = """
-0.2.3 | 0.2.3 0.2.9 | 0.3.0 0.2.2
-^1.2.3 | 1.2.3 1.9.0 | 1.2.2 2.0.0
-^0.0.3 | 0.0.3 | 0.0.4 0.0.2
-^0 | 0.9.0 0.0.0 | 1.0.0
-^0.0 | 0.0.7 | 0.1.0
-^0.2 | 0.2.0 0.2.9 | 0.3.0 1.2.0
-^1.2 | 1.2.0 1.9.0 | 1.1.9 2.0.0
-~1.2.3 | 1.2.9 1.2.3 | 1.3.0 1.2.2
-~1.2 | 1.2.0 1.2.9 | 1.3.0 1.1.9
-~1 | 1.9.0 1.0.0 | 2.0.0 0.9.0
-1.2.* | 1.2.7 | 1.3.0
-1.* | 1.9.0 | 2.0.0
-1.x.X | 1.9.0 | 2.0.0
-* | 0.0.0 9.9.9 | 1.0.0-a
-X | 1.0.0 | 1.0.0-a
-=1.2.3 | 1.2.3 1.2.3+x | 1.2.4 1.2.3-a
-=1.2 | 1.2.9 | 1.3.0
-=1 | 1.9.9 | 2.0.0
->1.2 | 1.3.0 2.0.0 | 1.2.9 1.2.0
->=1.2 | 1.2.0 2.0.0 | 1.1.9
->1.* | 2.0.0 | 1.9.0
-<1.2 | 1.1.9 | 1.2.0 1.2.0-a
-<=1.2 | 1.2.9 0.1.0 | 1.3.0
->=1.2.0, <1.5.0 | 1.2.0 1.4.9 | 1.5.0
-> 1.0.0 , < 2.0.0 | 1.0.1 | 1.0.0 2.0.0
-^1.0.0 | 1.0.0 | 1.0.0-alpha 1.1.0-alpha
-^1.0.0-alpha | 1.0.0-alpha 1.0.0 1.0.0-beta | 1.1.0-alpha 1.0.0-0
->=1.0.0-a, ^1 | 1.0.0-a 1.5.0 | 1.0.1-a
->=1.0.0-a, 1.* | 1.0.0 | 1.0.0-a
->1.2.3-a, <2 | 1.2.3-b 1.9.0 | 1.2.3-a 2.0.0
-~1, >=1.5.0-a | 1.5.0 | 1.5.0-a
-~1.2, >=1.2.5-a | 1.2.5 | 1.2.5-a
-~1.2.3-a.1 | 1.2.3-a.2 1.2.4 | 1.2.3-a 1.2.4-a
-<2.0.0, >=2.0.0-a | 2.0.0-b | 1.9.0 2.0.0
-1.2.3+build | 1.2.3 1.3.0 | 2.0.0
-"""
+DATA = Path(TOP, "tests", "support", "data")
+# Worked refusals: what is published, what is asked, the derivation, and how `registry why` tells it.
+REFUSALS = json.loads(DATA.joinpath("refusals.json").read_text(encoding="utf-8"))
 TANGLED = ["^1.0.0", "^2.0.0", ">=1.1.0", "<2.0.0", "*", "=1.1.0", "^2.0.0-rc.1"]
 REQUIREMENTS = [*TANGLED, "^1", "^3.0.0", ">=1.0.0"]  # those that the sessions here publish
 NAMES = ["a", "b", "c", "d"]
+
+
+def worked(name):
+    """The lines and the request of a worked refusal, and its derivation, as texts."""
+    held = REFUSALS[name]
+    derivation = json.dumps(held["derivation"], separators=(",", ":"))
+    return [json.dumps(line) for line in held["lines"]], json.dumps(held["request"]), derivation
+
+
+CHAIN, YANKED, UNKNOWN = worked("chain"), worked("yanked"), worked("unknown")
+WORKED = {name: worked(name) for name in ("chain", "either", "yanked", "unknown", "pre-release")}
+
+
+def rows(name):
+    """The rows of a table of this folder."""
+    text = DATA.joinpath(name).read_text(encoding="utf-8")
+    return [row for row in text.splitlines() if not row.startswith("# ")]
 
 
 def asked(line):
@@ -168,14 +75,16 @@ class Judged(unittest.TestCase):
         return printed
 
     def judge_each(self, wanted, lines, refusals):
-        """The same of all refusals that one session ends with, each a request, its derivation, and what is told where it fails."""
+        """The same of all refusals that one session ends with, each a request, its derivation, and what is told where
+        it fails."""
         requests, replies = session(lines, *refusals[0][:2])
         for request, derivation, _ in refusals[1:]:
             requests.append(request)
             replies.append(refused(derivation, replies[-1]["revision"]))
         status, printed = said_of(requests, replies)
         for (request, derivation, told), said in zip(refusals, printed.splitlines(), strict=True):
-            self.assertIn(" follows" if wanted == 0 else " does not follow: ", said, f"{told}\n{json.dumps(request)}\n{json.dumps(derivation)}")
+            self.assertIn(" follows" if wanted == 0 else " does not follow: ", said,
+                          f"{told}\n{json.dumps(request)}\n{json.dumps(derivation)}")
         self.assertEqual(status, wanted)
 
 
@@ -189,31 +98,38 @@ class Worked(Judged):
             self.judge(1, lines, asked(resolve()), json.loads(derivation), name)
 
     def test_each_text_changed(self):
-        for name, changes in CHANGES.items():
-            lines, request, derivation = WORKED[name]
-            for change in changes.strip().split("\n"):
-                old, new = change.split(" as ")
-                self.assertIn(old, derivation)
-                harmless = (name, new) == ("yanked", '"versions":[0,1]')
-                changed = json.loads(derivation.replace(old, new, 1))
-                self.judge(0 if harmless else 1, lines, asked(request), changed, f"{name}: {change}")
+        for row in rows("wrong_derivations.txt"):
+            if not row.startswith("  "):
+                lines, request, derivation = WORKED[row]
+                continue
+            old, new = row[2:].split(" as ")
+            self.assertIn(old, derivation)
+            # an ordinal that is not published is not allowed
+            harmless = (lines, new) == (YANKED[0], '"versions":[0,1]')
+            self.judge(0 if harmless else 1, lines, asked(request), json.loads(derivation.replace(old, new, 1)), row)
 
     def test_each_fault_is_told(self):
         lines, request, derivation = CHAIN
-        for old, new, told in (('"within":[1]', '"within":[0]', 'line 1: a version of baz that meets "^3.0.0" is left out'),
+        for old, new, told in (('"within":[1]', '"within":[0]', 'line 1: a version of baz that meets "^3.0.0" is left '
+                                                                'out'),
                                ('{"line":1}', '{"line":2}', "line 2: line 2 does not stand above it"),
                                ('"index":1', '"index":2', "line 2: the request has no need with index 2"),
-                               ('"versions":[0]', '"versions":[1]', 'line 1: a premise on bar has no versions, or one that does not need baz "^3.0.0"'),
+                               ('"versions":[0]', '"versions":[1]', 'line 1: a premise on bar has no versions, or one '
+                                                                    'that does not need baz "^3.0.0"'),
                                ('"pivot":"bar"', '"pivot":"zzz"', "line 1: neither cause speaks of the pivot"),
-                               ('["baz",false,[1]]', '["baz",false,[0]]', "line 1: the conclusion is not what the causes give on bar"),
-                               ('["foo",true,[0]],["baz"', '["baz",false,[1]],["foo"', "line 1: terms out of package order, or on no package"),
+                               ('["baz",false,[1]]', '["baz",false,[0]]',
+                                "line 1: the conclusion is not what the causes give on bar"),
+                               ('["foo",true,[0]],["baz"', '["baz",false,[1]],["foo"',
+                                "line 1: terms out of package order, or on no package"),
                                ('"within":[1]', '"within":[1,1]', "line 1: a cause of no known form"),
                                (derivation, "[]", "there is no derivation of the right form"),
-                               (derivation, derivation[:derivation.rindex(',{"causes"')] + "]", "the last line does not say that the request can't be met")):
+                               (derivation, derivation[:derivation.rindex(',{"causes"')] + "]",
+                                "the last line does not say that the request can't be met")):
             printed = self.judge(1, lines, asked(request), json.loads(derivation.replace(old, new, 1)), told)
             self.assertEqual(printed, f"request 5: the refusal at revision 4 does not follow: {told}\n")
         for (lines, request, derivation), more, old, new, told in (
-                (UNKNOWN, [], "[]", '[["",true,[0]]]', "line 1: the conclusion is not what the causes give on the request"),
+                (UNKNOWN, [], "[]", '[["",true,[0]]]', "line 1: the conclusion is not what the causes give on the "
+                                                       "request"),
                 (YANKED, [], '"name":"a"', '"name":"b"', "line 1: there is no package b"),
                 (YANKED, [unyank("a", "1.0.0")], "", "", "line 1: of a these ordinals are allowed: [0]")):
             printed = self.judge(1, [*lines, *more], asked(request), json.loads(derivation.replace(old, new, 1)), told)
@@ -226,9 +142,11 @@ class Worked(Judged):
         premise, need = later[0]["causes"][0], {"fact": "need", "index": 1}
         true = {"causes": [premise, need], "conclusion": [["", True, [0]], ["bar", True, [0]]], "pivot": "baz"}
         self.judge(0, lines, asked(request), [true, *later])
-        self.judge(1, lines, asked(request), [{**true, "conclusion": [*true["conclusion"], ["baz", False, []]]}, *later])
+        self.judge(1, lines, asked(request), [{**true, "conclusion": [*true["conclusion"], ["baz", False, []]]},
+                                              *later])
         for pivot in ("foo", "zzz"):
-            told = self.judge(1, lines, asked(request), [{**true, "conclusion": [*true["conclusion"], ["baz", False, [0, 1]]],
+            told = self.judge(1, lines, asked(request),
+                              [{**true, "conclusion": [*true["conclusion"], ["baz", False, [0, 1]]],
                                                           "pivot": pivot}, *later])
             self.assertIn("pivot", told)
         empty = {"causes": [{**premise, "versions": []}, need], "conclusion": [["", True, [0]], ["bar", True, []]],
@@ -238,8 +156,8 @@ class Worked(Judged):
     def test_the_highest_ordinal(self):
         lines, request, derivation = YANKED
         for versions, wanted in (("[0,4294967295]", 0), ("[0,4294967296]", 1)):
-            self.judge(wanted, lines, asked(request), json.loads(derivation.replace('"versions":[0]',
-                                                                                    f'"versions":{versions}')))
+            changed = derivation.replace('"versions":[0]', f'"versions":{versions}')
+            self.judge(wanted, lines, asked(request), json.loads(changed))
 
     def test_lines_left_out(self):
         for lines, request, derivation in WORKED.values():
@@ -253,24 +171,28 @@ class Worked(Judged):
             self.judge(1, lines, asked(request), bad)
         pairs = [('"within":[1]', it) for it in ('"within":[true]', '"within":[1.0]', '"within":["1"]', '"within":[-1]',
                                                  '"within":[4294967296,1]',
-                                                 '"within":[1,1]', '"within":1', '"within":null', '"within":[1],"more":1',
+                                                 '"within":[1,1]', '"within":1', '"within":null',
+                                                 '"within":[1],"more":1',
                                                  '"inside":[1]')]
         pairs += [('"versions":[0]', it) for it in ('"versions":[0,0]', '"versions":[1,0]', '"versions":[null]',
                                                     '"versions":{"0":0}')]
         pairs += [('{"line":1}', it) for it in ('{"line":true}', '{"line":"1"}', '{"line":1.0}', '{"line":-1}',
                                                 '{"line":1,"fact":"line"}', '1', 'null')]
-        pairs += [('"pivot":"bar"', it) for it in ('"pivot":null', '"pivot":2', '"pivot":["bar"]', '"pivot":"bar","more":0',
+        pairs += [('"pivot":"bar"', it) for it in ('"pivot":null', '"pivot":2', '"pivot":["bar"]',
+                                                   '"pivot":"bar","more":0',
                                                    '"more":0')]
-        pairs += [('["baz",false,[1]]', it) for it in ('["baz",0,[1]]', '["baz",false]', '["baz",false,[1],0]', '[3,false,[1]]',
+        pairs += [('["baz",false,[1]]', it) for it in ('["baz",0,[1]]', '["baz",false]', '["baz",false,[1],0]',
+                                                       '[3,false,[1]]',
                                                        '["baz",false,1]', 'null')]
-        pairs += [('{"line":1},{"fact":"need","index":1}', it) for it in ('{"line":1}', '',
-                                                                          '{"line":1},{"fact":"need","index":1},{"fact":"root"}')]
+        both = '{"line":1},{"fact":"need","index":1}'
+        pairs += [(both, it) for it in ('{"line":1}', '', both + ',{"fact":"root"}')]
         for old, new in pairs:
             self.judge(1, lines, asked(request), json.loads(derivation.replace(old, new, 1)), f"{old} as {new}")
 
     def test_a_version_that_was_published_since(self):
         lines, request, derivation = CHAIN
-        for line, wanted in ((publish("baz", "3.1.0"), 1), (publish("baz", "3.1.0-pre"), 0), (publish("baz", "4.0.0"), 0),
+        for line, wanted in ((publish("baz", "3.1.0"), 1), (publish("baz", "3.1.0-pre"), 0),
+                             (publish("baz", "4.0.0"), 0),
                              (publish("bar", "2.5.0"), 1),
                              (publish("foo", "1.1.0"), 1), (publish("foo", "2.0.0"), 0), (publish("baz", "1.4.0"), 0)):
             self.judge(wanted, [*lines, line], asked(request), json.loads(derivation), line)
@@ -280,7 +202,8 @@ class Worked(Judged):
         for line, wanted in ((unyank("a", "1.0.0"), 1), (unyank("a", "1.0.0+other"), 1), (unyank("a", "2.0.0"), 0),
                              (yank("a", "1.0.0"), 0)):
             self.judge(wanted, [*lines, line], asked(request), json.loads(derivation), line)
-        for lock, wanted in ((["a 1.0.0"], 1), (["a 1.0.0+locked"], 1), (["a 1.0.0-pre"], 0), (["b 1.0.0"], 0), ([], 0)):
+        for lock, wanted in ((["a 1.0.0"], 1), (["a 1.0.0+locked"], 1), (["a 1.0.0-pre"], 0), (["b 1.0.0"], 0),
+                             ([], 0)):
             self.judge(wanted, lines, asked(resolve("a ^1", lock=lock)), json.loads(derivation), lock)
 
     def test_a_package_that_nothing_publishes(self):
@@ -305,31 +228,37 @@ class Worked(Judged):
 
 class Rules(unittest.TestCase):
     def test_precedence(self):
-        rising = ["0.9.9", "1.0.0-0", "1.0.0-2", "1.0.0-10", "1.0.0--", "1.0.0-alpha", "1.0.0-alpha.1", "1.0.0-alpha.beta",
+        rising = ["0.9.9", "1.0.0-0", "1.0.0-2", "1.0.0-10", "1.0.0--", "1.0.0-alpha", "1.0.0-alpha.1",
+                  "1.0.0-alpha.beta",
                   "1.0.0-beta", "1.0.0-beta.2",
-                  "1.0.0-beta.11", "1.0.0-rc.1", "1.0.0", "1.0.1", "1.1.0", "2.0.0", "10.0.0", "18446744073709551615.0.0"]
+                  "1.0.0-beta.11", "1.0.0-rc.1", "1.0.0", "1.0.1", "1.1.0", "2.0.0", "10.0.0",
+                  "18446744073709551615.0.0"]
         self.assertEqual(sorted(rising, key=check_derivation.read_version), rising)
         self.assertEqual(check_derivation.read_version("1.0.0-a+x.01"), check_derivation.read_version("1.0.0-a+y"))
 
     def test_texts_that_are_no_versions(self):
-        for text in ("", "1", "1.0", "1.0.0.0", "01.0.0", "1.0.00", "1.0.0-", "1.0.0-00", "1.0.0-a..b", "1.0.0+", "1.0.0-a_b",
+        for text in ("", "1", "1.0", "1.0.0.0", "01.0.0", "1.0.00", "1.0.0-", "1.0.0-00", "1.0.0-a..b", "1.0.0+",
+                     "1.0.0-a_b",
                      " 1.0.0", "1.0.0 ", "=1.0.0", "v1.0.0", "1.0.*",
                      "1.0.0\n", "١.0.0", "18446744073709551616.0.0", "1.0.0+" + "b" * 251):
             self.assertIsNone(check_derivation.read_version(text), text)
         self.assertIsNotNone(check_derivation.read_version("1.0.0+" + "b" * 250))
 
     def test_requirements(self):
-        for row in MATCHING.strip().split("\n"):
+        for row in rows("requirements.txt"):
             requirement, met, unmet = row.split(" | ")
             for text in met.split():
-                self.assertTrue(check_derivation.admits(requirement, check_derivation.read_version(text)), (requirement, text))
+                self.assertTrue(check_derivation.admits(requirement, check_derivation.read_version(text)),
+                                (requirement, text))
             for text in unmet.split():
-                self.assertFalse(check_derivation.admits(requirement, check_derivation.read_version(text)), (requirement, text))
+                self.assertFalse(check_derivation.admits(requirement, check_derivation.read_version(text)),
+                                 (requirement, text))
         with self.assertRaisesRegex(ValueError, "one is no requirement"):
             check_derivation.admits("one", check_derivation.read_version("1.0.0"))
 
     def test_texts_that_are_no_requirements(self):
-        for text in ("", " ", "^", "1,", ",1", "a", "1.0.0.0", "*, 1", "1, *", "**", "01", "1.*.2", "*.1", "1.0-a", "1.*-a",
+        for text in ("", " ", "^", "1,", ",1", "a", "1.0.0.0", "*, 1", "1, *", "**", "01", "1.*.2", "*.1", "1.0-a",
+                     "1.*-a",
                      "1.0.0-", "1.0.0-01", "==1", "=>1", "!1", "1 2", "1\t",
                      "^1.0.0" + " " * 251, ", ".join(["^1"] * 33), "18446744073709551616"):
             self.assertIsNone(check_derivation.read_requirement(text), text)
@@ -340,8 +269,8 @@ class Rules(unittest.TestCase):
         rng = random.Random(7)
         version = lambda: ".".join(str(rng.randrange(3)) for _ in range(3)) + rng.choice(["", "", "-a", "-b.1", "-1"])
         for _ in range(20000):
-            requirement = ", ".join(rng.choice(["^", "", "~", "=", ">", ">=", "<",
-                                                "<="]) + version() for _ in range(rng.choice([1, 1, 2])))
+            requirement = ", ".join(rng.choice(["^", "", "~", "=", ">", ">=", "<", "<="]) + version()
+                                    for _ in range(rng.choice([1, 1, 2])))
             text = version()
             self.assertEqual(check_derivation.admits(requirement, check_derivation.read_version(text)),
                              plain_search.matches(requirement, text), (requirement, text))
@@ -349,8 +278,8 @@ class Rules(unittest.TestCase):
 
 def tangle(rng):
     """Publications of which most depend on others that don't go together, some yanked, and a request."""
-    rows = [(name, version) for name in NAMES for version in rng.sample(["1.0.0", "1.1.0", "2.0.0", "2.0.0-rc.1"],
-                                                                        rng.choice([2, 2, 3]))]
+    rows = [(name, version) for name in NAMES
+            for version in rng.sample(["1.0.0", "1.1.0", "2.0.0", "2.0.0-rc.1"], rng.choice([2, 2, 3]))]
     rng.shuffle(rows)
     commands = []
     for name, version in rows:
@@ -358,10 +287,12 @@ def tangle(rng):
         commands.append({"op": "publish", "name": name, "version": version,
                          "needs": [[target, rng.choice(TANGLED)] for target in targets]})
     commands += [{"op": "yank", "name": name, "version": version} for name, version in rows if rng.random() < 0.2]
-    request = {"op": "resolve", "needs": [[name, rng.choice(TANGLED[:5])] for name in rng.sample(NAMES, rng.choice([1, 2, 3]))],
+    request = {"op": "resolve",
+               "needs": [[name, rng.choice(TANGLED[:5])] for name in rng.sample(NAMES, rng.choice([1, 2, 3]))],
                "explain": True}
     if rng.random() < 0.4:
-        request["lock"] = [[name, rng.choice(["1.0.0", "2.0.0+x", "9.9.9"])] for name in rng.sample([*NAMES, "nobody"], 2)]
+        request["lock"] = [[name, rng.choice(["1.0.0", "2.0.0+x", "9.9.9"])]
+                           for name in rng.sample([*NAMES, "nobody"], 2)]
     return commands, request
 
 
@@ -421,7 +352,8 @@ class Files(unittest.TestCase):
     def file(self, name, lines, ended=True):
         path = os.path.join(self.folder.name, name)
         with open(path, "w", encoding="utf-8", newline="") as file:
-            file.write("\n".join(it if isinstance(it, str) else json.dumps(it) for it in lines) + ("\n" if ended else ""))
+            file.write("\n".join(it if isinstance(it, str) else json.dumps(it) for it in lines)
+                       + ("\n" if ended else ""))
         return path
 
     def tool(self, *words):
@@ -450,24 +382,29 @@ class Files(unittest.TestCase):
         requests, replies = self.wrong()
         self.assertEqual(self.tool(self.file("asked", requests, ended=False), self.file("told", replies, ended=False)),
                          (1,
-                          'request 5: the refusal at revision 4 does not follow: line 1: a version of baz that meets "^3.0.0" is left out\n'))
+                          'request 5: the refusal at revision 4 does not follow: line 1: a version of baz that meets '
+                          '"^3.0.0" is left out\n'))
 
     def test_one_file_by_turns(self):
         for (requests, replies), status in ((self.chain(), 0), (self.wrong(), 1)):
-            self.assertEqual(self.tool(self.file("both", [it for pair in zip(requests, replies) for it in pair]))[0], status)
+            self.assertEqual(self.tool(self.file("both", [it for pair in zip(requests, replies) for it in pair]))[0],
+                             status)
 
     def test_a_journal(self):
         requests, replies = self.chain()
         more = [*requests[:-1], json.loads(publish("baz", "3.1.0"))]
         for (_, told), status in ((self.chain(), 0), (self.wrong(), 1)):
             for commands in (requests[:-1], more):
-                words = ("--journal", self.journal(commands), self.file("asked", requests[-1:]), self.file("told", told[-1:]))
+                words = ("--journal", self.journal(commands), self.file("asked", requests[-1:]),
+                         self.file("told", told[-1:]))
                 self.assertEqual(self.tool(*words)[0], status)
         # what was learnt takes no revision
         learnt = self.journal([*requests[:2], {"derivation": json.loads(CHAIN[2])[:1], "op": "learn"}, *requests[2:-1]])
-        self.assertEqual(self.tool("--journal", learnt, self.file("asked", requests[-1:]), self.file("told", replies[-1:])),
+        self.assertEqual(self.tool("--journal", learnt, self.file("asked", requests[-1:]),
+                                   self.file("told", replies[-1:])),
                          (0, "request 1: the refusal at revision 4 follows\n"))
-        # at a later revision it no longer follows, and then once more it does at the earlier one, in a race's replies too
+        # at a later revision it no longer follows, and then once more it does at the earlier one, in a race's replies
+        # too
         several = [replies[-1], {**replies[-1], "revision": 5}, {**replies[-1], "place": 9, "seat": 2}]
         words = ("--journal", self.journal(more), self.file("asked", requests[-1:] * 3), self.file("told", several))
         status, printed = self.main(*words)
@@ -478,17 +415,23 @@ class Files(unittest.TestCase):
         requests, replies = self.chain()
         asked_file, told_file = self.file("asked", requests[-1:]), self.file("told", replies[-1:])
         commands = requests[:-1]
-        texts = [["registry-journal 1"], ["registry-journal 3", *commands, "end 4"], ["registry-journal 1", *commands, "end 5"],
+        texts = [["registry-journal 1"], ["registry-journal 3", *commands, "end 4"],
+                 ["registry-journal 1", *commands, "end 5"],
                  ["registry-journal 1", *commands],
-                 ["registry-journal 1", *commands, "end 4", ""], ["registry-journal 1", commands[0], *commands[:3], "end 4"],
+                 ["registry-journal 1", *commands, "end 4", ""], ["registry-journal 1", commands[0], *commands[:3],
+                                                                  "end 4"],
                  ["registry-journal 1", *commands[:3], "end 3"],
                  ["registry-journal 1", *commands[:3], "nothing", "end 4"], []]
         for number, lines in enumerate(texts):
-            self.assertEqual(self.main("--journal", self.file(f"journal{number}", lines), asked_file, told_file)[0], 2, lines)
-        for place, told in ((4, "a cut journal"), (5, "the journal has a command that the rules refuse"), (6, "reply 1 is not of revision 3")):
-            self.assertEqual(self.main("--journal", os.path.join(self.folder.name, f"journal{place}"), asked_file, told_file),
+            self.assertEqual(self.main("--journal", self.file(f"journal{number}", lines), asked_file, told_file)[0], 2,
+                             lines)
+        for place, told in ((4, "a cut journal"), (5, "the journal has a command that the rules refuse"),
+                            (6, "reply 1 is not of revision 3")):
+            self.assertEqual(self.main("--journal", os.path.join(self.folder.name, f"journal{place}"), asked_file,
+                                       told_file),
                              (2, f"there is no judging it: {told}\n"))
-        self.assertEqual(self.main("--journal", self.file("cut", ["registry-journal 1", *commands, "end 4"], ended=False),
+        self.assertEqual(self.main("--journal", self.file("cut", ["registry-journal 1", *commands, "end 4"],
+                                                          ended=False),
                                    asked_file, told_file)[0], 2)
 
     def test_several_refusals(self):
@@ -517,7 +460,8 @@ class Files(unittest.TestCase):
         bad = [(requests, replies[:-1]), (requests[1:], replies), (requests, told(2, {"ok": True, "revision": 9})),
                (requests, told(4, refused([], 3))),
                (requests, told(3, error)), (requests, [*replies[:3], {**error, "revision": 3},
-                                                       refused(json.loads(CHAIN[2]), 3)]), (lines(1, requests[0]), replies),
+                                                       refused(json.loads(CHAIN[2]), 3)]),
+               (lines(1, requests[0]), replies),
                                                        (lines(1, "publish"), replies), (requests, told(4, "none")),
                                                        (requests, told(4, '"none"')), (lines(4, "[]"), replies),
                                                        (requests, told(4, {})),
@@ -540,8 +484,5 @@ class Files(unittest.TestCase):
         for number in (6, 8, 9, 10, 18, 19):
             barred = json.loads(publish("baz", "3.1.0"))
             self.assertEqual(said_of([*requests[:-1], barred, requests[-1]],
-                                     [*replies[:-1], {"error": number, "name": "..", "revision": 4}, replies[-1]])[0], 0)
-
-
-if __name__ == "__main__":
-    unittest.main()
+                                     [*replies[:-1], {"error": number, "name": "..", "revision": 4}, replies[-1]])[0],
+                             0)

@@ -1,46 +1,32 @@
-"""The client in Python over the program and over the library in this process: the same calls with the same answers. What is wanted
-is worked by hand from docs/FORMATS.md and docs/REGISTRY.md."""
+"""The client in Python over the program and over the library in this process: the same calls with the same answers.
+What is wanted is worked by hand from docs/FORMATS.md and docs/REGISTRY.md."""
+import json
 import re
 import subprocess
 import sys
 import threading
-import unittest
 
 import registryd
 from registryd import (
-    REFUSALS,
-    Accepted,
-    Check,
-    Line,
-    List,
-    Listing,
-    NoSelection,
-    Publish,
-    Refusal,
-    Registry,
-    Resolve,
-    Selection,
-    Unyank,
-    Verdict,
-    Yank,
-)
+    REFUSALS, Accepted, Check, Line, List, Listing, NoSelection, Publish, Refusal, Registry, Resolve, Selection,
+    Unyank, Yank)
 from tests.support import client_python
 from tests.support.client_python import PYTHON, SECONDS, blocks, read
+from tests.support.client_rows import CULPRITS, PUBLISHED
 from tests.support.library import LIBRARY, needs_library
 from tests.support.program import PROGRAM, files_of_at_most
 
 WHY_ZED = [{"causes": [{"fact": "need", "index": 0}, {"fact": "root"}], "conclusion": [], "pivot": ""}]
-JOURNAL = 'registry-journal 2\n{"name":"a","needs":[["b","^1.0.0"]],"op":"publish","version":"1.0.0"}\n{"name":"a","op":"yank","version":"1.0.0"}\nend 2\n'
-# Lines that are refused, after `a` 1.0.0, yanked, and `b` 1.0.0 were published.
-REFUSED = [
-    ("BadName", Publish("A", "1.0.0")), ("BadName", Resolve({"": "*"})), ("BadName", Yank("é", "1.0.0")), ("BadVersion", Publish("a", "1.0")),
-    ("BadVersion", Unyank("a", "1.0.0\n")), ("BadRequirement", Resolve({"a": "none"})), ("RepeatedDependency", Resolve([("a", "*"), ("a", "^1")])),
-    ("SelfDependency", Publish("a", "2.0.0", {"a": "*"})), ("TooManyDependencies", Resolve({f"n{number}": "*" for number in range(65)})),
-    ("AlreadyPublished", Publish("a", "1.0.0+other")), ("NoSuchVersion", Yank("a", "3.0.0")), ("AlreadyYanked", Yank("a", "1.0.0")),
-    ("NotYanked", Unyank("b", "1.0.0")),
-    ("BadLine", Yank("\ud800", "1.0.0")), ("BadLine", Line(b"")), ("BadLine", Line(b'{"op":"yank","name":"\xff","version":"1.0.0"}')),
-    ("BadLine", Check({}, [{"causes": []}])), ("BadLine", Line(b" " * 1_048_577)),
-]
+JOURNAL = """registry-journal 2
+{"name":"a","needs":[["b","^1.0.0"]],"op":"publish","version":"1.0.0"}
+{"name":"a","op":"yank","version":"1.0.0"}
+end 2
+"""
+# Lines that are refused, after PUBLISHED.
+REFUSED = [*((error, Line(json.dumps(asked).encode())) for asked, error, *_ in CULPRITS),
+           *(("BadLine", request) for request in (
+               Yank("\ud800", "1.0.0"), Line(b""), Line(b'{"op":"yank","name":"\xff","version":"1.0.0"}'),
+               Check({}, [{"causes": []}]), Line(b" " * 1_048_577)))]
 
 
 class Calls:
@@ -50,8 +36,8 @@ class Calls:
         raise NotImplementedError
 
     def fails(self, told, call, file=None):
-        """This call tells that the session has ended: of a file in these words, which the program says of a journal that is loaded or
-        saved in other ones, `file`."""
+        """This call tells that the session has ended: of a file in these words, which the program says of a journal
+        that is loaded or saved in other ones, `file`."""
         raise NotImplementedError
 
     def raises(self, name, future):
@@ -69,37 +55,31 @@ class Calls:
             self.assertEqual(registry.resolve({"a": "^1"}, {"b": "1.0.0"}), Selection(3, {"a": "1.0.0", "b": "1.0.0"}))
             self.assertEqual(registry.yank("b", "1.1.0"), 4)
             self.assertEqual(registry.resolve([("a", "^1")], budget=0), Selection(4, {"a": "1.0.0", "b": "1.0.0"}))
-            self.assertEqual(registry.list(), Listing(4, {"a": (("1.0.0", False),), "b": (("1.0.0", False), ("1.1.0+x", True))}))
+            self.assertEqual(registry.list(),
+                             Listing(4, {"a": (("1.0.0", False),), "b": (("1.0.0", False), ("1.1.0+x", True))}))
             self.assertEqual(registry.unyank("b", "1.1.0"), 5)
             self.assertEqual(registry.resolve({"zed": "*"}), NoSelection(5))
-            why = ('1. never (), because the request needs zed "*" in {} and the request must be met', "So no selection meets the request.")
+            why = ('1. never (), because the request needs zed "*" in {} and the request must be met',
+                   "So no selection meets the request.")
             self.assertEqual(registry.resolve({"zed": "*"}, explain=True), NoSelection(5, WHY_ZED, why))
             self.assertIs(registry.check({"zed": "*"}, WHY_ZED), True)
             self.assertIs(registry.check({"a": "*"}, WHY_ZED, {"a": "1.0.0"}), False)
+            # that nothing publishes it shows in a conflict
+            self.assertRaises(registryd.BudgetSpent, registry.resolve, {"zed": "*"}, budget=0)
+            self.assertEqual((registry.many([]), registry.list().revision), ([], 5))
 
     def test_what_the_program_refuses(self):
         with self.open() as registry:
-            registry.publish("a", "1.0.0")
-            registry.yank("a", "1.0.0")
-            registry.publish("b", "1.0.0")
+            for line in PUBLISHED:
+                registry.ask(Line(line.encode())).result(SECONDS)
             # all at once, and one by one
             futures = registry.many([request for _, request in REFUSED])
-            for (name, _), future in zip(REFUSED, futures):
+            for (name, request), future in zip(REFUSED, futures):
                 self.assertEqual(self.raises(name, future).revision, 3)
-            for name, request in REFUSED:
                 self.raises(name, registry.ask(request))
             with self.assertRaises(registryd.AlreadyPublished):
                 registry.publish("a", "1.0.0")
             self.assertEqual(registry.list().revision, 3)
-
-    def test_a_budget_that_is_spent(self):
-        # Dart pub's doc/solver.md, "Performing Conflict Resolution": foo 2.0.0 is found out by one conflict
-        with self.open() as registry:
-            for name, version, needs in (("foo", "2.0.0", {"bar": "^1.0.0"}), ("bar", "1.0.0", {"foo": "^1.0.0"}), ("foo", "1.0.0", {})):
-                registry.publish(name, version, needs)
-            with self.assertRaises(registryd.BudgetSpent):
-                registry.resolve({"foo": ">=1.0.0"}, budget=0)
-            self.assertEqual(registry.resolve({"foo": ">=1.0.0"}).selected, {"foo": "1.0.0"})
 
     def test_many_at_once(self):
         with self.open(**self.several) as registry:
@@ -122,30 +102,21 @@ class Calls:
                 thread.start()
             for thread in threads:
                 thread.join(SECONDS)
-        self.assertEqual(sorted(revision for revisions, _ in answered.values() for revision in revisions), list(range(1, 401)))
-        self.assertEqual([answered[number][1] for number in range(8)], [{f"a{number}": "1.49.0"} for number in range(8)])
-
-    def test_a_line_that_cannot_be_written_sends_none(self):
-        with self.open() as registry:
-            for bad in (Line(b"a\nb"), Publish("a", b"1.0.0")):
-                with self.assertRaises((ValueError, TypeError)):
-                    registry.many([Publish("a", "1.0.0"), bad])
-            self.assertEqual(registry.list(), Listing(0, {}))
+        self.assertEqual(sorted(revision for revisions, _ in answered.values() for revision in revisions),
+                         list(range(1, 401)))
+        self.assertEqual([answered[number][1] for number in range(8)],
+                         [{f"a{number}": "1.49.0"} for number in range(8)])
 
     def test_a_long_reply(self):
         # a derivation of more bytes than are taken at once: each of 1,500 versions is ruled out for a reason of its own
         with self.open() as registry:
-            for future in registry.many(Publish("a", f"{number}.0.0", {f"needed-by-version-{number}": "*"}) for number in range(1500)):
+            for future in registry.many(Publish("a", f"{number}.0.0", {f"needed-by-version-{number}": "*"})
+                                        for number in range(1500)):
                 future.result(SECONDS)
             why = registry.resolve({"a": "*"}, explain=True)
             self.assertGreater(len("".join(why.explanation)), 65_536)
             self.assertIs(registry.check({"a": "*"}, why.derivation), True)
             self.assertEqual(registry.resolve({"a": "*"}), NoSelection(1500))
-
-    def test_no_requests(self):
-        with self.open() as registry:
-            self.assertEqual(registry.many([]), [])
-            self.assertEqual(registry.list(), Listing(0, {}))
 
     def test_a_journal_is_saved_and_loaded(self):
         path = self.path("journal")
@@ -158,7 +129,8 @@ class Calls:
             self.assertEqual(registry.list(), Listing(2, {"a": (("1.0.0", True),)}))
         with open(path, "w", encoding="ascii") as out:
             out.write(JOURNAL.replace('"a"', '"A"', 1))
-        self.fails(f"journal {path}: line 2 is not a journal's, and nothing was changed", lambda: self.open(load=path), "journal line 2")
+        self.fails(f"journal {path}: line 2 is not a journal's, and nothing was changed", lambda: self.open(load=path),
+                   "journal line 2")
 
     def test_a_journal_that_is_gone_on_with(self):
         path = self.path("journal")
@@ -175,7 +147,8 @@ class Calls:
         self.assertEqual(read(path), JOURNAL)
         with open(path, "w", encoding="ascii") as out:
             out.write(JOURNAL.replace('"a"', '"A"', 1))
-        self.fails(f"journal {path}: line 2 is not a journal's, and nothing was changed", lambda: self.open(journal=path))
+        self.fails(f"journal {path}: line 2 is not a journal's, and nothing was changed",
+                   lambda: self.open(journal=path))
 
     def test_what_cannot_be_begun_or_saved(self):
         none, missing = self.path("none"), "No such file or directory (os error 2)"
@@ -245,42 +218,29 @@ class Values(client_python.Case):
         self.assertEqual([(str(number), kind.__name__) for number, kind in sorted(REFUSALS.items())], told)
         self.assertEqual(len(told), 22)
         for number, name in told:
-            reply = registryd.answer(f'{{"error":{number},"name":"{name}","revision":7}}'.encode())
+            reply = registryd.replies.answer(f'{{"error":{number},"name":"{name}","revision":7}}'.encode())
             self.assertEqual((type(reply).__name__, reply.number, reply.revision), (name, int(number), 7))
             self.assertRegex(str(reply), f"^{name}: .*, at revision 7$")
 
     def test_lines_are_written(self):
-        needs, derivation = {"b": "^1.0.0", "c": "*"}, [{"causes": []}]
         for request, line in [
-            (Publish("a", "1.0.0", needs), '{"op":"publish","name":"a","version":"1.0.0","needs":[["b","^1.0.0"],["c","*"]]}'),
-            (Publish("a", "1.0.0", list(needs.items())[:1]), '{"op":"publish","name":"a","version":"1.0.0","needs":[["b","^1.0.0"]]}'),
+            (Publish("a", "1.0.0", [("b", "^1.0.0"), ("c", "*")]),
+             '{"op":"publish","name":"a","version":"1.0.0","needs":[["b","^1.0.0"],["c","*"]]}'),
             (Yank('a"', "1\n"), r'{"op":"yank","name":"a\"","version":"1\n"}'),
             (Unyank("é", "\ud800"), r'{"op":"unyank","name":"\u00e9","version":"\ud800"}'),
-            (Resolve({}), '{"op":"resolve","needs":[]}'),
-            (Resolve(needs, [("a", "1.0.0")], 7, True),
-             '{"op":"resolve","needs":[["b","^1.0.0"],["c","*"]],"lock":[["a","1.0.0"]],"budget":7,"explain":true}'),
-            (Resolve({}, budget=0), '{"op":"resolve","needs":[],"budget":0}'),
-            (Check({"b": "*"}, derivation, {"a": "1"}), '{"op":"check","needs":[["b","*"]],"lock":[["a","1"]],"derivation":[{"causes":[]}]}'),
-            (List(), '{"op":"list"}'), (Line(b"x \xff"), "x \udcff"),
+            (Resolve({"b": "*"}, [("a", "1.0.0")], 0, True),
+             '{"op":"resolve","needs":[["b","*"]],"lock":[["a","1.0.0"]],"budget":0,"explain":true}'),
+            (Resolve({}), '{"op":"resolve","needs":[]}'), (Line(b"x \xff"), "x \udcff"),
         ]:
-            self.assertEqual(registryd.written(request), line.encode(errors="surrogateescape") + b"\n")
-
-    def test_replies_are_read(self):
-        for line, reply in [
-            ('{"ok":true,"revision":3}', Accepted(3)), ('{"follows":false,"revision":1}', Verdict(1, False)),
-            ('{"revision":2,"selected":[["a","1.0.0"],["b","2.0.0"]]}', Selection(2, {"a": "1.0.0", "b": "2.0.0"})),
-            ('{"refused":true,"revision":0}', NoSelection(0)),
-            ('{"derivation":[],"explanation":["1. \\"","So."],"refused":true,"revision":1}', NoSelection(1, [], ('1. "', "So."))),
-            ('{"packages":[["a",[["1.0.0",true]]]],"revision":2}', Listing(2, {"a": (("1.0.0", True),)})),
-        ]:
-            self.assertEqual(registryd.answer(line.encode() + b"\n"), reply)
+            self.assertEqual(registryd.requests.written(request), line.encode(errors="surrogateescape") + b"\n")
 
     def check_example(self, at, journal, variables):
         """The example of a page does what is shown behind it."""
         typed, printed = blocks("clients/README.md")[at:at + 2]
         # the second time it goes on with its journal
         for _ in range(2):
-            done = subprocess.run([sys.executable, "-c", typed.replace("./registryd", PROGRAM)], cwd=self.folder, env=variables,
+            done = subprocess.run([sys.executable, "-c", typed.replace("./registryd", PROGRAM)],
+                                  cwd=self.folder, env=variables,
                                   stdout=subprocess.PIPE, text=True, timeout=SECONDS)
             self.assertEqual((done.returncode, done.stdout.strip()), (0, printed))
             self.assertEqual(read(self.path(journal)).count('"name":"app"'), 1)
@@ -292,6 +252,10 @@ class Values(client_python.Case):
     def test_the_example_in_process(self):
         self.check_example(2, "embedded.journal", {**PYTHON, "REGISTRYD_LIBRARY": LIBRARY})
 
-
-if __name__ == "__main__":
-    unittest.main()
+    @needs_library
+    def test_the_example_of_seats(self):
+        typed, printed = blocks("clients/README.md")[4:6]
+        self.assertLessEqual(len(typed.splitlines()), 11)
+        done = subprocess.run([sys.executable, "-c", typed], env={**PYTHON, "REGISTRYD_LIBRARY": LIBRARY},
+                              stdout=subprocess.PIPE, text=True, timeout=SECONDS, check=True)
+        self.assertEqual(done.stdout.strip(), printed)

@@ -23,13 +23,19 @@ class Calls:
     def test_each_call(self):
         async def calls():
             async with await self.open() as registry:
-                self.assertEqual([await registry.publish("b", "1.0.0"), await registry.publish("a", "1.0.0", {"b": "^1"}), await registry.yank("b", "1.0.0")], [1, 2, 3])
+                self.assertEqual([await registry.publish("b", "1.0.0"),
+                                  await registry.publish("a", "1.0.0", {"b": "^1"}), await registry.yank("b", "1.0.0")],
+                                 [1, 2, 3])
                 refused = await registry.resolve({"a": "*"}, explain=True)
-                self.assertEqual((type(refused), await registry.check({"a": "*"}, refused.derivation)), (NoSelection, True))
-                self.assertIn(("need", "a"), [(it.kind, it.target) for it in refused.tree().causes if isinstance(it, External)])
-                self.assertEqual(await registry.resolve({"a": "*"}, {"b": "1.0.0"}, budget=0), Selection(3, {"a": "1.0.0", "b": "1.0.0"}))
+                self.assertEqual((type(refused), await registry.check({"a": "*"}, refused.derivation)),
+                                 (NoSelection, True))
+                self.assertIn(("need", "a"),
+                              [(it.kind, it.target) for it in refused.tree().causes if isinstance(it, External)])
+                self.assertEqual(await registry.resolve({"a": "*"}, {"b": "1.0.0"}, budget=0),
+                                 Selection(3, {"a": "1.0.0", "b": "1.0.0"}))
                 self.assertEqual(await registry.unyank("b", "1.0.0"), 4)
-                self.assertEqual(await registry.list(), Listing(4, {"a": (("1.0.0", False),), "b": (("1.0.0", False),)}))
+                self.assertEqual(await registry.list(),
+                                 Listing(4, {"a": (("1.0.0", False),), "b": (("1.0.0", False),)}))
                 with self.assertRaisesRegex(AlreadyPublished, "b 1.0.0 is published already"):
                     await registry.publish("b", "1.0.0")
                 with self.assertRaisesRegex(TypeError, r"^needs\[0\] is a pair"):
@@ -48,7 +54,8 @@ class Calls:
                 return revisions, replies
 
         revisions, replies = run(calls())
-        self.assertEqual((sorted(revisions), [it.selected for it in replies]), ([*range(1, 51)], [{f"a{number}": "1.0.0"} for number in range(50)]))
+        self.assertEqual((sorted(revisions), [it.selected for it in replies]),
+                         ([*range(1, 51)], [{f"a{number}": "1.0.0"} for number in range(50)]))
 
 
 class WithProgram(Calls, Case):
@@ -96,7 +103,3 @@ class Forms(unittest.TestCase):
     def test_it_has_the_calls_of_a_session(self):
         awaited = {it for it in vars(AsyncRegistry) if not it.startswith("_")} - {"open"}
         self.assertEqual(awaited, {it for it in vars(registryd.Registry) if not it.startswith("_")} - {"many"})
-
-
-if __name__ == "__main__":
-    unittest.main()

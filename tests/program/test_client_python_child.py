@@ -1,5 +1,5 @@
-"""The client in Python and its child: programs that end, close or write what is no reply, sessions that are closed or killed in the
-midst of a search, and what becomes of the program where this process ends."""
+"""The client in Python and its child: programs that end, close or write what is no reply, sessions that are closed or
+killed in the midst of a search, and what becomes of the program where this process ends."""
 import contextlib
 import os
 import signal
@@ -7,7 +7,6 @@ import subprocess
 import sys
 import threading
 import time
-import unittest
 from unittest import mock
 
 import registryd
@@ -15,14 +14,15 @@ from registryd import Accepted, BudgetSpent, Ended, List, Listing, NoSelection, 
 from tests.support.client_python import PYTHON, SECONDS, SOON, Case, other, pigeons
 from tests.support.processes import is_running
 from tests.support.program import PROGRAM, TOP, heed_signals
-from tests.support.two_selections import NEEDS, NEWEST, VERSIONS
+
+# What a program in Python prints as a reply to a command.
+OK = "print('{\"ok\":true,\"revision\":1}', flush=True)"
 
 
 class Child(Case):
     def test_a_line_that_was_sent_is_not_cancelled(self):
         # neither has a reply before both are sent
-        registry = other("for line in [sys.stdin.readline(), sys.stdin.readline()]: print('{\"ok\":true,\"revision\":1}', flush=True)\n"
-                         "sys.stdin.read()")
+        registry = other(f"for line in [sys.stdin.readline(), sys.stdin.readline()]: {OK}\nsys.stdin.read()")
         first = registry.ask(Publish("a", "1.0.0"))
         self.assertFalse(first.cancel())
         self.assertEqual(registry.ask(Publish("b", "1.0.0")).result(SECONDS), Accepted(1))
@@ -104,13 +104,6 @@ class Child(Case):
             with self.assertRaises(ValueError):
                 Registry(budget=0, **options)
 
-    def test_the_newest_selection(self):
-        for options in ({}, {"budget": 1000}):
-            with Registry(PROGRAM, journal=self.path(f"{options}.journal"), **options) as registry:
-                for version in VERSIONS:
-                    registry.publish(*version)
-                self.assertEqual(registry.resolve(NEEDS).selected, NEWEST)
-
     def test_closing_has_a_limit_where_the_program_is_stopped(self):
         for is_asked in (False, True):
             registry = Registry(PROGRAM)
@@ -120,7 +113,8 @@ class Child(Case):
             # more than a pipe holds
             futures += registry.many([registryd.Line(b'{"op":"list"}' + b" " * 10_000)] * 100 if is_asked else [])
             begun = time.monotonic()
-            self.ends("the program was killed, since it had not ended 0.5 seconds after the session was closed", lambda: registry.close(0.5))
+            self.ends("the program was killed, since it had not ended 0.5 seconds after the session was closed",
+                      lambda: registry.close(0.5))
             self.assertLess(time.monotonic() - begun, SOON)
             for future in futures:
                 self.assertIsInstance(future.exception(SECONDS), Ended)
@@ -134,16 +128,17 @@ class Child(Case):
                 self.assertEqual(self.ends("by signal 9", lambda: registry.ask(List())), -9)
 
     def test_a_program_that_ends_while_lines_wait(self):
-        registry = other("sys.stdin.readline()\nprint('{\"ok\":true,\"revision\":1}', flush=True)\nprint('told', file=sys.stderr)\nsys.exit(3)")
+        registry = other(f"sys.stdin.readline()\n{OK}\nprint('told', file=sys.stderr)\nsys.exit(3)")
         futures = registry.many([Publish("a", "1.0.0")] * 10_000)
         self.assertEqual(futures[0].result(SECONDS), Accepted(1))
         for future in futures[1:]:
             self.assertEqual(self.ends("^the program ended with status 3: told$", lambda: future.result(SECONDS)), 3)
         self.ends("status 3", registry.close)
 
-    @mock.patch.object(registryd, "WAITED", 0.05)
+    @mock.patch.object(registryd.waiting, "WAITED", 0.05)
     def test_a_program_that_writes_what_is_no_reply(self):
-        for text in ("no reply", "{}", "[]", "null", '{"revision":1,"selected":1}', '{"revision":1,"packages":[["a"]]}'):
+        for text in ("no reply", "{}", "[]", "null", '{"revision":1,"selected":1}',
+                     '{"revision":1,"packages":[["a"]]}'):
             registry = other(f"sys.stdin.readline()\nprint({text!r}, flush=True)\ntime.sleep(100)")
             future = registry.ask(List())
             self.ends("the program wrote no reply", lambda: future.result(SECONDS))
@@ -152,18 +147,18 @@ class Child(Case):
     def test_a_program_that_writes_part_of_a_reply(self):
         registry = other("sys.stdin.readline()\nprint('{\"ok\":true,\"rev', end='', flush=True)")
         # it has ended when no more comes, or does so in a moment
-        self.enterContext(mock.patch.object(registryd, "WAITED", SECONDS))
+        self.enterContext(mock.patch.object(registryd.waiting, "WAITED", SECONDS))
         self.ends("the program ended with status 0", lambda: registry.ask(List()).result(SECONDS))
         self.ends("the program ended", registry.close)
 
-    @mock.patch.object(registryd, "WAITED", 0.05)
+    @mock.patch.object(registryd.waiting, "WAITED", 0.05)
     def test_a_program_that_writes_one_reply_too_many(self):
-        registry = other("print('{\"ok\":true,\"revision\":1}', flush=True)\ntime.sleep(100)")
+        registry = other(f"{OK}\ntime.sleep(100)")
         registry._session._threads[2].join(SECONDS)
         self.ends("the program wrote no reply", registry.list)
         self.ends("the program wrote no reply", registry.close)
 
-    @mock.patch.object(registryd, "WAITED", 0.05)
+    @mock.patch.object(registryd.waiting, "WAITED", 0.05)
     def test_a_program_that_closes_its_ends(self):
         for closed in (0, 1):
             registry = other(f"sys.stdin.readline()\nos.close({closed})\ntime.sleep(100)")
@@ -176,10 +171,10 @@ class Child(Case):
             self.ends("the program ended", lambda: future.result(SECONDS))
             self.ends("the program ended", registry.close)
 
-    @mock.patch.object(registryd, "WAITED", 2)
+    @mock.patch.object(registryd.waiting, "WAITED", 2)
     def test_a_program_whose_standard_error_stays_open(self):
-        registry = other("import subprocess\nholds = subprocess.Popen(['sleep', '60'], stdin=subprocess.DEVNULL, stdout=subprocess.DEVNULL, "
-                         "start_new_session=True)\nprint(holds.pid, file=sys.stderr)")
+        registry = other("import subprocess\nnone = subprocess.DEVNULL\nholds = subprocess.Popen(['sleep', '60'], "
+                         "stdin=none, stdout=none, start_new_session=True)\nprint(holds.pid, file=sys.stderr)")
         begun = time.monotonic()
         told = "the program ended with status 0: [0-9]+$"
         self.ends(told, registry.list)
@@ -201,7 +196,8 @@ class Child(Case):
         registry = Registry(PROGRAM, journal=self.path("journal"))
         future = registry.ask(pigeons(registry))
         begun = time.monotonic()
-        self.assertEqual(self.ends("killed, since it had not ended 0.2 seconds after", lambda: registry.close(0.2)), -signal.SIGKILL)
+        self.assertEqual(self.ends("killed, since it had not ended 0.2 seconds after", lambda: registry.close(0.2)),
+                         -signal.SIGKILL)
         self.assertLess(time.monotonic() - begun, SOON)
         self.ends("by signal 9", lambda: future.result(SECONDS))
         registry.close()
@@ -212,16 +208,27 @@ class Child(Case):
     def test_an_end_that_was_interrupted_is_gone_on_with(self):
         registry = Registry(PROGRAM)
         future = registry.ask(pigeons(registry))
-        with mock.patch.object(registry._session._ending, "wait", side_effect=KeyboardInterrupt), self.assertRaises(KeyboardInterrupt):
+        with mock.patch.object(registry._session._ending, "wait",
+                               side_effect=KeyboardInterrupt), self.assertRaises(KeyboardInterrupt):
             registry.close()
         self.ends("killed", lambda: registry.close(0.1))
         self.ends("by signal 9", lambda: future.result(SECONDS))
 
     def begun(self, script, before=""):
-        """A Python of its own that runs a script over a session which is searching; and the number of the program's process."""
-        text = (f"import os\nimport registryd\nfrom tests.support.client_python import pigeons\nregistryd.INTERRUPTED = 0.2\nseen = os.dup(0)\n{before}\n"
-                f"with registryd.Registry({PROGRAM!r}) as registry:\n    asked = pigeons(registry)\n    future = registry.ask(asked)\n"
-                f"    print(registry._session._process.pid, flush=True)\n    os.read(seen, 1)\n    {script}\n")
+        """A Python of its own that runs a script over a session that searches; and the program's process."""
+        text = f"""
+import os, registryd
+from tests.support.client_python import pigeons
+registryd.INTERRUPTED = 0.2
+seen = os.dup(0)
+{before}
+with registryd.Registry({PROGRAM!r}) as registry:
+    asked = pigeons(registry)
+    future = registry.ask(asked)
+    print(registry._session._process.pid, flush=True)
+    os.read(seen, 1)
+    {script}
+"""
         parent = subprocess.Popen([sys.executable, "-c", text], cwd=TOP, env=PYTHON, stdin=subprocess.PIPE,
                                   stdout=subprocess.PIPE, stderr=subprocess.PIPE, text=True, preexec_fn=heed_signals)
         self.addCleanup(parent.communicate)
@@ -270,7 +277,3 @@ def comes(condition):
     while not condition() and time.monotonic() < limit:
         time.sleep(0.01)
     return condition()
-
-
-if __name__ == "__main__":
-    unittest.main()

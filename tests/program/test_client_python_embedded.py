@@ -1,22 +1,19 @@
-"""The client in Python over the library in this process: which library it takes, what it refuses to begin, and what becomes of sessions
-that are forgotten, forked, interrupted, or closed while a search runs."""
+"""The client in Python over the library in this process: which library it takes, what it refuses to begin, and what
+becomes of sessions that are forgotten, forked, interrupted, or closed while a search runs."""
 import os
 import shutil
 import subprocess
 import sys
 import threading
-import unittest
 from unittest import mock
 
 import pytest
 
 import registryd
 from registryd import Accepted, Ended, List, Listing, Publish, Registry, Resolve
-from tests.program.test_journals import journal
 from tests.support.client_python import PYTHON, SECONDS, SOON, Case
 from tests.support.library import LIBRARY, needs_library
-from tests.support.program import TOP, publish
-from tests.support.two_selections import NEEDS, NEWEST, VERSIONS
+from tests.support.program import TOP
 
 pytestmark = pytest.mark.not_quick("the static library")
 CLIENT = os.path.join(TOP, "clients", "python", "registryd")
@@ -28,17 +25,18 @@ class Library(Case):
 
     def test_a_library_that_is_named(self):
         with mock.patch.dict(os.environ, {"REGISTRYD_LIBRARY": "/from/the/variable.so"}):
-            self.assertEqual(registryd.library_path("named.so"), "named.so")
-            self.assertEqual(registryd.library_path(None), "/from/the/variable.so")
+            self.assertEqual(registryd.embedded.library_path("named.so"), "named.so")
+            self.assertEqual(registryd.embedded.library_path(None), "/from/the/variable.so")
 
     def test_the_library_that_is_installed(self):
         client, library = self.path("share", "registryd", "clients", "python"), self.path("lib", "libregistryd.so")
         shutil.copytree(CLIENT, os.path.join(client, "registryd"))
         variables = {name: value for name, value in os.environ.items() if name != "REGISTRYD_LIBRARY"}
-        command = [sys.executable, "-B", "-c", "import registryd; print(registryd.library_path(None))"]
+        command = [sys.executable, "-B", "-c", "import registryd; print(registryd.embedded.library_path(None))"]
 
         def taken():
-            return subprocess.run(command, cwd=client, env=variables, stdout=subprocess.PIPE, text=True, check=True).stdout.strip()
+            return subprocess.run(command, cwd=client, env=variables, stdout=subprocess.PIPE, text=True,
+                                  check=True).stdout.strip()
 
         self.assertEqual(taken(), "libregistryd.so")
         os.makedirs(os.path.dirname(library))
@@ -57,32 +55,6 @@ class Embedded(Case):
     def open(self, **options):
         return Registry(embedded=True, library=LIBRARY, **options)
 
-    def test_the_newest_selection(self):
-        path = self.path("a.journal")
-        for options in ({}, {"journal": path}):
-            with self.open(**options) as registry:
-                for version in VERSIONS:
-                    registry.publish(*version)
-                self.assertEqual(registry.resolve(NEEDS).selected, NEWEST)
-        for options in ({"journal": path}, {"load": path}, {"load": path, "save": self.path("b.journal")}):
-            with self.open(**options) as registry:
-                self.assertEqual(registry.resolve(NEEDS).selected, NEWEST)
-
-    def test_a_journal_that_is_moved_or_removed(self):
-        kept, there = self.path("kept"), self.path("there")
-        for change in (lambda: os.rename(kept, there), lambda: (os.link(kept, there), os.unlink(kept)),
-                       lambda: (os.rename(kept, there), shutil.copy(there, kept))):
-            registry = self.open(journal=kept)
-            registry.publish("a", "1.0.0")
-            change()
-            for call in (lambda registry=registry: registry.publish("b", "1.0.0"), registry.close):
-                with self.assertRaisesRegex(Ended, f"journal {kept}: changed by another program, and not gone on with"):
-                    call()
-            with open(there, "rb") as file:
-                self.assertEqual(file.read(), journal([publish("a", "1.0.0")]).removesuffix(b"end 1\n"))
-            for name in os.listdir(self.folder):
-                os.unlink(self.path(name))
-
     def test_a_name_counts_from_the_folder_in_which_the_session_began(self):
         self.addCleanup(os.chdir, os.getcwd())
         os.chdir(self.folder)
@@ -92,14 +64,16 @@ class Embedded(Case):
             self.assertEqual(registry.publish("b", "1.0.0"), 2)
 
     def test_what_cannot_be_asked_for(self):
-        for options in ({"workers": 2}, {"journal": self.path("a"), "load": self.path("b")}, {"journal": self.path("a"), "save": self.path("b")}):
+        for options in ({"workers": 2}, {"journal": self.path("a"), "load": self.path("b")},
+                        {"journal": self.path("a"), "save": self.path("b")}):
             with self.assertRaises(ValueError):
                 self.open(**options)
         self.assertEqual(os.listdir(self.folder), [])
 
     def test_sessions_of_one_process(self):
         with self.open() as one, self.open() as other:
-            self.assertEqual((one.publish("a", "1.0.0"), one.publish("b", "1.0.0"), other.publish("c", "1.0.0")), (1, 2, 1))
+            self.assertEqual((one.publish("a", "1.0.0"), one.publish("b", "1.0.0"), other.publish("c", "1.0.0")),
+                             (1, 2, 1))
             self.assertEqual(other.list(), Listing(1, {"c": (("1.0.0", False),)}))
 
     def test_more_sessions_than_there_may_be(self):
@@ -121,7 +95,8 @@ class Embedded(Case):
     def test_what_is_called_back_may_call(self):
         told = []
         with self.open() as registry:
-            registry.ask(Publish("a", "1.0.0")).add_done_callback(lambda it: told.append((it.result(), registry.list().revision)))
+            asked = registry.ask(Publish("a", "1.0.0"))
+            asked.add_done_callback(lambda it: told.append((it.result(), registry.list().revision)))
         self.assertEqual(told, [(Accepted(1), 1)])
 
     def test_a_forked_process_has_no_session(self):
@@ -190,7 +165,8 @@ except TimeoutError as told:
     print(time.monotonic() - begun < {SOON}, told, flush=True)
 """
         given = {**PYTHON, "PYTHONPATH": os.pathsep.join([PYTHON["PYTHONPATH"], TOP])}
-        done = subprocess.run([sys.executable, "-c", script], cwd=self.folder, env=given, stdout=subprocess.PIPE, text=True, timeout=SECONDS)
+        done = subprocess.run([sys.executable, "-c", script], cwd=self.folder, env=given, stdout=subprocess.PIPE,
+                              text=True, timeout=SECONDS)
         told = "a search of the session still runs after 0.2 seconds, and can't be ended in this process"
         self.assertEqual((done.returncode, done.stdout.strip()), (0, f"True {told}"))
         # nothing that was told is lost
@@ -213,7 +189,3 @@ except TimeoutError as told:
             self.assertEqual(registry.publish("a", "1.0.0"), 1)
             searching.join()
         self.assertTrue(os.path.exists(self.path("journal")))
-
-
-if __name__ == "__main__":
-    unittest.main()

@@ -12,27 +12,21 @@ from unittest import mock
 import registryd
 from dev.long import interrupt_sessions
 from registryd import (
-    BROKEN_OFF,
-    Accepted,
-    AlreadyPublished,
-    Ended,
-    List,
-    Listing,
-    NoSelection,
-    Publish,
-    Registry,
-    Resolve,
-    Selection,
-)
+    Accepted, AlreadyPublished, Ended, List, Listing, NoSelection, Publish, Registry, Resolve, Selection)
+from registryd.child import BROKEN_OFF
 from tests.support.client_python import SECONDS, Case
 from tests.support.library import LIBRARY, needs_library
 from tests.support.program import PROGRAM
 from tests.support.services import Service
 
 NAMES = [f"p{number}" for number in range(10)]
-# The files whose steps are counted, and the functions in them that make or read a line, and come before or after all that matters.
-STEPPED = (os.path.join("registryd", "__init__.py"), os.path.join("registryd", "service.py"), os.path.join("concurrent", "futures", "_base.py"), "threading.py")
-PASSED_OVER = ("written", "line", "rows", "text_of", "number_of", "is_set", "to", "answer", "__init__", "<genexpr>", "<listcomp>", "<dictcomp>")
+# The files whose steps are counted, and the functions in them that make or read a line, and come before or after all
+# that matters.
+STEPPED = (*(os.path.join("registryd", f"{name}.py")
+             for name in ("__init__", "child", "embedded", "service", "waiting")),
+           os.path.join("concurrent", "futures", "_base.py"), "threading.py")
+PASSED_OVER = ("written", "line", "rows", "text_of", "number_of", "is_set", "to", "answer", "__init__", "<genexpr>",
+               "<listcomp>", "<dictcomp>")
 
 
 class Broken(BaseException):
@@ -45,7 +39,8 @@ def leave(_):
 
 
 class Steps:
-    """Meanwhile the n-th step of this thread in the files that count, a bytecode, is not done: an exception is raised there."""
+    """Meanwhile the n-th step of this thread in the files that count, a bytecode, is not done: it raises an
+    exception."""
 
     def __init__(self, number):
         self.left = number
@@ -90,11 +85,13 @@ class Stepped:
                 self.registry.publish(name, "1.0.0")
 
     def at_each_step(self, call):
-        """Interrupts a call, which is given the number of the step, at each step; between them the session is used by two threads."""
+        """Interrupts a call, which is given the number of the step, at each step; between them the session is used by
+        two threads."""
         number, is_done = 0, False
         while not is_done:
             number += 1
-            with contextlib.suppress(Broken, RuntimeError), Steps(number) as steps:  # the latter by Python's Condition, at one of its steps
+            # the latter by Python's Condition, at one of its steps
+            with contextlib.suppress(Broken, RuntimeError), Steps(number) as steps:
                 call(number)
             sys.settrace(None)
             is_done = steps.left > 0
@@ -104,7 +101,7 @@ class Stepped:
         return number
 
     def use(self, number):
-        """Asks twice, from another thread and from this one; goes on with a new session where this one says that it has ended."""
+        """Asks twice, from another thread and from this one; goes on with a new session where this one has ended."""
         try:
             for turn, ask in enumerate((self.elsewhere, lambda it: it())):
                 name = NAMES[(number + turn) % len(NAMES)]
@@ -142,7 +139,8 @@ class Stepped:
 
     def test_lines_that_are_sent_together(self):
         def ask(number):
-            *_, missing = self.registry.many([Resolve({NAMES[0]: "*"}), Publish(NAMES[1], "1.0.0"), Resolve({"missing": "*"})])
+            *_, missing = self.registry.many([Resolve({NAMES[0]: "*"}), Publish(NAMES[1], "1.0.0"),
+                                              Resolve({"missing": "*"})])
             self.assertIsInstance(missing.result(SECONDS), NoSelection)
         self.at_each_step(ask)
 
@@ -166,7 +164,7 @@ class WithProgram(Stepped, Case):
         return Registry(PROGRAM, journal=self.path("journal"))
 
     def test_that_it_ends_at_few_steps(self):
-        """A call that is interrupted while it waits, which it does for most of its time, leaves the session as it was."""
+        """A call that is interrupted while it waits, as it mostly does, leaves the session as it was."""
         number = self.at_each_step(lambda _: self.registry.list())
         self.assertTrue(0 < self.ended < number / 2, (self.ended, number))
 
@@ -280,7 +278,3 @@ class AtRandom(unittest.TestCase):
         told = [interrupt_sessions.tried(seed, 8) for seed in range(3)]
         self.assertEqual([find for *_, find in told if find], [])
         print(f"({sum(it[1] for it in told)} calls interrupted, {sum(it[2] for it in told)} replies) ", end="")
-
-
-if __name__ == "__main__":
-    unittest.main()

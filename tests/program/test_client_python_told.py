@@ -1,27 +1,14 @@
-"""What the client in Python tells of a request that is wrong: values that are none of their type, before a line is sent, and the text
-that a refusal is for. What is wanted is worked by hand from docs/REGISTRY.md and docs/FORMATS.md."""
+"""What the client in Python tells of a request that is wrong: values that are none of their type, before a line is
+sent, and the text that a refusal is for. What is wanted is worked by hand from docs/REGISTRY.md and docs/FORMATS.md."""
 import json
 import pickle
 import random
 import re
-import unittest
 
 import registryd
 from registry_cli.packages import registry_of
 from registryd import (
-    Accepted,
-    Check,
-    Line,
-    Listing,
-    NoSelection,
-    NothingSelected,
-    Publish,
-    Refusal,
-    Registry,
-    Resolve,
-    Unyank,
-    Yank,
-)
+    Accepted, Check, Line, Listing, NoSelection, NothingSelected, Publish, Refusal, Registry, Resolve, Unyank, Yank)
 from registryd.tree import External, tree
 from tests.program.test_check_derivation import tangle
 from tests.support.client_python import SECONDS, Case
@@ -31,44 +18,49 @@ from tests.support.read_english import Reader
 
 PAIR = r'is a pair of a name and a requirement, as \("log", "\^1.2"\), not '
 PAIRS = r'is a mapping or pairs of a name and a requirement, as \[\("log", "\^1.2"\)\], not '
-# Requests that can't be written: the exception, and what it says.
-WRONG = [
-    (Publish("a", "1.0.0", ["log"]), TypeError, rf"^needs\[0\] {PAIR}'log'$"), (Publish("a", "1.0.0", [("b", "*"), "ab"]), TypeError, rf"^needs\[1\] {PAIR}'ab'$"),
-    (Publish("a", "1.0.0", [("log",)]), ValueError, rf"^needs\[0\] {PAIR}\('log',\)$"), (Publish("a", "1.0.0", [7]), TypeError, rf"^needs\[0\] {PAIR}7$"),
-    (Publish("a", "1.0.0", "log"), TypeError, f"^needs {PAIRS}'log'$"), (Resolve(None), TypeError, f"^needs {PAIRS}None$"),
-    (Publish("a", 1.0), TypeError, "^version is a text, not 1.0$"), (Publish(None, "1.0.0"), TypeError, "^name is a text, not None$"),
-    (Yank(b"a", "1.0.0"), TypeError, "^name is a text, not b'a'$"), (Unyank("a", None), TypeError, "^version is a text, not None$"),
-    (Resolve({"b": "*", "a": None}), TypeError, r"^the requirement of 'a' in needs\[1\] is a text, not None$"),
-    (Resolve({1: "*"}), TypeError, r"^the name in needs\[0\] is a text, not 1$"),
-    (Resolve({}, [("a", 1)]), TypeError, r"^the version of 'a' in lock\[0\] is a text, not 1$"),
-    (Resolve({}, ["a"]), TypeError, r'^lock\[0\] is a pair of a name and a version, as \("log", "1.3.0"\), not \'a\'$'),
-    (Resolve({}, budget=-1), ValueError, "^budget is 0 to 4,294,967,295, not -1$"), (Resolve({}, budget=2 ** 32), ValueError, "^budget is .* not 4294967296$"),
-    (Resolve({}, budget="1"), TypeError, "^budget is a whole number, not '1'$"), (Resolve({}, budget=True), TypeError, "^budget is a whole number, not True$"),
-    (Resolve({}, explain=1), TypeError, "^explain is True or False, not 1$"), (Check({}, None), TypeError, "^derivation is the lines that a NoSelection has, not None$"),
-    (Line("{}"), TypeError, "^a line is bytes, not '{}'$"), (Line(b"a\nb"), ValueError, "no line feed"), ("a", TypeError, "^'a' is no request"), (None, TypeError, "^None is no request"),
-]
+# Requests that can't be written, and what the exception says, by its kind.
+WRONG = {
+    TypeError: [
+        (Publish("a", "1.0.0", ["log"]), rf"needs\[0\] {PAIR}'log'"),
+        (Publish("a", "1.0.0", [("b", "*"), "ab"]), rf"needs\[1\] {PAIR}'ab'"),
+        (Publish("a", "1.0.0", [7]), rf"needs\[0\] {PAIR}7"), (Publish("a", "1.0.0", "log"), f"needs {PAIRS}'log'"),
+        (Resolve(None), f"needs {PAIRS}None"), (Publish("a", 1.0), "version is a text, not 1.0"),
+        (Publish(None, "1.0.0"), "name is a text, not None"), (Yank(b"a", "1.0.0"), "name is a text, not b'a'"),
+        (Unyank("a", None), "version is a text, not None"),
+        (Resolve({1: "*"}), r"the name in needs\[0\] is a text, not 1"),
+        (Resolve({"b": "*", "a": None}), r"the requirement of 'a' in needs\[1\] is a text, not None"),
+        (Resolve({}, [("a", 1)]), r"the version of 'a' in lock\[0\] is a text, not 1"),
+        (Resolve({}, ["a"]), r'lock\[0\] is a pair of a name and a version, as \("log", "1.3.0"\), not \'a\''),
+        (Resolve({}, budget="1"), "budget is a whole number, not '1'"),
+        (Resolve({}, budget=True), "budget is a whole number, not True"),
+        (Resolve({}, explain=1), "explain is True or False, not 1"), (Line("{}"), "a line is bytes, not '{}'"),
+        (Check({}, None), "derivation is the lines that a NoSelection has, not None"), ("a", "'a' is no request.*"),
+        (None, "None is no request.*")],
+    ValueError: [
+        (Publish("a", "1.0.0", [("log",)]), rf"needs\[0\] {PAIR}\('log',\)"), (Line(b"a\nb"), ".*no line feed.*"),
+        (Resolve({}, budget=-1), "budget is 0 to 4,294,967,295, not -1"),
+        (Resolve({}, budget=2 ** 32), "budget is .* not 4294967296")],
+}
 # What a session can't be opened with.
 UNOPENED = [
-    ({"workers": 0}, ValueError, "^workers is 1 to 64, not 0$"), ({"workers": 65}, ValueError, "^workers is 1 to 64, not 65$"), ({"workers": "2"}, TypeError, "^workers is a whole number"),
-    ({"budget": 1 << 32}, ValueError, "^budget is 0 to"),
-    ({"journal": "a", "load": "b"}, ValueError, "loads and saves none"), ({"journal": "a", "save": "b"}, ValueError, "loads and saves none"),
+    ({"workers": 0}, ValueError, "^workers is 1 to 64, not 0$"),
+    ({"workers": 65}, ValueError, "^workers is 1 to 64, not 65$"),
+    ({"workers": "2"}, TypeError, "^workers is a whole number"), ({"budget": 1 << 32}, ValueError, "^budget is 0 to"),
+    ({"journal": "a", "load": "b"}, ValueError, "loads and saves none"),
+    ({"journal": "a", "save": "b"}, ValueError, "loads and saves none"),
 ]
-MANY = {f"n{number}": "*" for number in range(39)}
-# What the registry refuses after `a` 1.0.0 was published and yanked, and `b` 1.0.0: where, the package, the text, what was meant, and how it is told.
-REFUSED = [
-    (Publish("App", "1.0.0"), "BadName", "name", "App", "App", "app", "name, App: "), (Resolve({"b": "*", "B": "*"}), "BadName", "needs[1]", "B", "B", "b", "needs[1], B: "),
-    (Resolve({}, {"C": "1.0.0"}), "BadName", "lock[0]", "C", "C", "c", "lock[0], C: "),
-    (Publish("a", "1.0"), "BadVersion", "version", "a", "1.0", "1.0.0", 'version, a: the version "1.0" has no patch number; did you mean "1.0.0"?'),
-    (Resolve({}, {"b": "1.0.0", "a": "v1"}), "BadVersion", "lock[1]", "a", "v1", "1.0.0", "lock[1], a: "),
-    (Resolve({**MANY, "log": "==1.2"}), "BadRequirement", "needs[39]", "log", "==1.2", "=1.2", "needs[39], log: the operator == of Python"),
+# Lines that no other client can send, or whose whole text is told here, as the culprits of `rows/culprits.rows`.
+MORE = [
     (Publish("c", "1.0.0", {"é": "*"}), "BadName", "needs[0]", "é", "é", "e", "needs[0], é: "),
-    (Resolve([("a", "*"), ("b", "*"), ("a", "^1")]), "RepeatedDependency", "needs[2]", "a", "a", None, "needs[2], a: a appears twice"),
-    (Publish("c", "1.0.0", {"b": "*", "c": "*"}), "SelfDependency", "needs[1]", "c", "c", None, "needs[1], c: c depends on itself"),
-    (Resolve({f"n{number}": "*" for number in range(65)}), "TooManyDependencies", "needs[64]", "n64", "n64", None, "needs[64], n64: 65 needs; the limit is 64"),
-    (Publish("a", "1.0.0+x"), "AlreadyPublished", "", "a", "1.0.0+x", None, "a 1.0.0+x is published already"), (Yank("a", "3.0.0"), "NoSuchVersion", "", "a", "3.0.0", None, "a 3.0.0 is not published"),
-    (Yank("a", "1.0.0"), "AlreadyYanked", "", "a", "1.0.0", None, "a 1.0.0 is yanked already"), (Unyank("b", "1.0.0"), "NotYanked", "", "b", "1.0.0", None, "b 1.0.0 is not yanked"),
-    (Line(b'{"op":"list","x":1}'), "BadLine", "", "", "", None, 'a list line has no member "x"'), (Line(b"\xff"), "BadLine", "", "", "", None, "byte 1 of the line, 0xFF, is not UTF-8"),
-    (Line(b"{op:1}"), "BadLine", "", "", "", '"op"', "the name op has no quotes"), (Check({}, [{"causes": []}]), "BadLine", "derivation[0]", "", "", None, "derivation[0]: a line of a derivation"),
+    (Publish("a", "1.0"), "BadVersion", "version", "a", "1.0", "1.0.0",
+     'version, a: the version "1.0" has no patch number; did you mean "1.0.0"?'),
+    (Resolve({"a": "*", "log": "==1.2"}), "BadRequirement", "needs[1]", "log", "==1.2", "=1.2",
+     "needs[1], log: the operator == of Python"),
+    (Publish("a", "1.0.0+x"), "AlreadyPublished", "", "a", "1.0.0+x", None, "a 1.0.0+x is published already"),
+    (Line(b'{"op":"list","x":1}'), "BadLine", "", "", "", None, 'a list line has no member "x"'),
+    (Line(b"\xff"), "BadLine", "", "", "", None, "byte 1 of the line, 0xFF, is not UTF-8"),
+    (Line(b"{op:1}"), "BadLine", "", "", "", '"op"', "the name op has no quotes"),
+    (Check({}, [{"causes": []}]), "BadLine", "derivation[0]", "", "", None, "derivation[0]: a line of a derivation"),
 ]
 
 
@@ -78,9 +70,9 @@ class Told(Case):
 
     def test_a_value_that_is_none_of_its_type_is_named_and_sends_no_line(self):
         with self.open() as registry:
-            for request, kind, told in WRONG:
+            for kind, request, told in ((kind, *it) for kind, requests in WRONG.items() for it in requests):
                 with self.subTest(request=request):
-                    with self.assertRaisesRegex(kind, told) as caught:
+                    with self.assertRaisesRegex(kind, f"^{told}$") as caught:
                         registry.many([Publish("a", "1.0.0"), request])
                     self.assertIs(type(caught.exception), kind)
             self.assertEqual(registry.list(), Listing(0, {}))
@@ -93,35 +85,30 @@ class Told(Case):
 
     def test_pairs_in_each_form(self):
         with self.open() as registry:
-            for number, needs in enumerate(([["b", "*"]], (("b", "*"),), {"b": "*"}, iter([("b", "*")]), {"b": "*"}.items(), [], ()), 1):
+            for number, needs in enumerate(([["b", "*"]], (("b", "*"),), {"b": "*"}, iter([("b", "*")]),
+                                            {"b": "*"}.items(), [], ()), 1):
                 self.assertEqual(registry.publish("a", f"{number}.0.0", needs), number)
 
     def test_a_refusal_tells_its_culprit(self):
-        with self.open() as registry:
-            for command in (Publish("a", "1.0.0"), Yank("a", "1.0.0"), Publish("b", "1.0.0")):
-                self.assertIsInstance(registry.ask(command).result(SECONDS), Accepted)
-            for request, name, where, package, text, meant, told in REFUSED:
-                with self.subTest(request=request), self.assertRaises(Refusal) as caught:
-                    registry.ask(request).result(SECONDS)
-                found, culprit = caught.exception, caught.exception.culprit
-                self.assertEqual((type(found).__name__, found.request, culprit[:3], culprit.meant), (name, request, (where, package, text), meant))
-                self.assertTrue(str(found).startswith(f"{name}: {told}") and str(found).endswith(", at revision 3"), str(found))
-                self.assertIn(culprit.told, str(found))
-
-    def test_a_refusal_tells_the_culprit_that_other_clients_tell(self):
         self.assertGreater(len(CULPRITS), 30)
+        rows = [*((Line(json.dumps(asked).encode()), *rest, "") for asked, *rest in CULPRITS), *MORE]
         with self.open() as registry:
             for line in PUBLISHED:
                 self.assertIsInstance(registry.ask(Line(line.encode())).result(SECONDS), Accepted)
-            for asked, error, *wanted in CULPRITS:
-                with self.subTest(asked=asked), self.assertRaises(Refusal) as caught:
-                    registry.ask(Line(json.dumps(asked).encode())).result(SECONDS)
-                culprit = caught.exception.culprit
-                self.assertEqual((type(caught.exception).__name__, [*culprit[:3], culprit.meant]), (error, wanted))
+            for request, error, *wanted, told in rows:
+                with self.subTest(request=request), self.assertRaises(Refusal) as caught:
+                    registry.ask(request).result(SECONDS)
+                found, culprit = caught.exception, caught.exception.culprit
+                self.assertEqual((type(found).__name__, found.request, [*culprit[:3], culprit.meant]),
+                                 (error, request, wanted))
+                self.assertTrue(str(found).startswith(f"{error}: {told}")
+                                and str(found).endswith(", at revision 3"), str(found))
+                self.assertIn(culprit.told, str(found))
 
     def test_a_call_tells_it_as_a_future_does(self):
         with self.open() as registry:
-            with self.assertRaisesRegex(registryd.BadRequirement, r"^BadRequirement: needs\[1\], b: .*; did you mean \"=1\"\?, at revision 0$") as caught:
+            told = r"^BadRequirement: needs\[1\], b: .*; did you mean \"=1\"\?, at revision 0$"
+            with self.assertRaisesRegex(registryd.BadRequirement, told) as caught:
                 registry.resolve({"a": "*", "b": "==1"})
         self.assertEqual(caught.exception.request, Resolve({"a": "*", "b": "==1"}))
 
@@ -140,7 +127,8 @@ class Told(Case):
         with self.open() as registry:
             nothing, selected = registry.resolve({"zed": "*"}), registry.resolve({})
             self.assertEqual(registry.ask(Resolve({"zed": "*"})).result(SECONDS).request, Resolve({"zed": "*"}))
-        self.assertEqual((bool(nothing), bool(selected), nothing, nothing.request), (False, True, NoSelection(0), Resolve({"zed": "*"})))
+        self.assertEqual((bool(nothing), bool(selected), nothing, nothing.request),
+                         (False, True, NoSelection(0), Resolve({"zed": "*"})))
         with self.assertRaisesRegex(NothingSelected, "^no selection meets the request at revision 0: .* explain=True"):
             nothing.selected
 
@@ -156,7 +144,8 @@ class Told(Case):
 
     def test_the_tree_of_a_refusal(self):
         with self.open() as registry:
-            for name, version, needs in (("log", "1.0.0", {}), ("log", "1.1.0", {}), ("app", "1.0.0", {"log": "^2"}), ("old", "1.0.0", {}), ("yet", "1.0.0", {"log": "=1.1"})):
+            for name, version, needs in (("log", "1.0.0", {}), ("log", "1.1.0", {}), ("app", "1.0.0", {"log": "^2"}),
+                                         ("old", "1.0.0", {}), ("yet", "1.0.0", {"log": "=1.1"})):
                 registry.publish(name, version, needs)
             registry.yank("old", "1.0.0")
             never, dependency, need = self.walked(registry, [("app", "^1")])
@@ -165,8 +154,10 @@ class Told(Case):
             self.assertEqual((never.terms, never.causes), ({"": (True, ())}, (dependency, need)))
             kinds = {it.kind: it for it in self.walked(registry, {"old": "*"}) if isinstance(it, External)}
             self.assertEqual(kinds["disallowed"].versions, ("1.0.0",))
-            inner = [it for it in self.walked(registry, {"yet": "*", "log": "=1.0.0"}) if isinstance(it, External) and it.kind == "premise"]
-            self.assertEqual([vars(it) for it in inner], [vars(External("premise", "yet", ("1.0.0",), "log", "=1.1", ("1.1.0",)))])
+            inner = [it for it in self.walked(registry, {"yet": "*", "log": "=1.0.0"}) if isinstance(it, External)
+                     and it.kind == "premise"]
+            self.assertEqual([vars(it) for it in inner],
+                             [vars(External("premise", "yet", ("1.0.0",), "log", "=1.1", ("1.1.0",)))])
             with self.assertRaisesRegex(ValueError, "explain=True"):
                 registry.resolve({"app": "^1"}).tree()
 
@@ -178,7 +169,8 @@ class Told(Case):
         with self.open() as registry:
             registry.publish("app", "1.0.0", {"log": ">=2, <3"})
             self.assertEqual(registry.resolve({"app": "^1"}, explain=True).tree().sentences(), [
-                'Because app 1.0.0 depends on log ">=2, <3" and no version of log matches ">=2, <3" and the request depends on app ^1, resolving failed.'])
+                'Because app 1.0.0 depends on log ">=2, <3" and no version of log matches ">=2, <3" '
+                'and the request depends on app ^1, resolving failed.'])
 
     def test_each_sentence_follows(self):
         count = 0
@@ -187,16 +179,21 @@ class Told(Case):
             commands, _ = tangle(rng)
             registry = registry_of(commands, {it["name"] for it in commands})
             requests = [{**tangle(rng)[1], "explain": True} for _ in range(12)]
-            for request, reply in zip(requests, map(json.loads, serve([json.dumps(it) for it in [*commands, *requests]])[len(commands):])):
+            for request, reply in zip(requests,
+                                      map(json.loads,
+                                          serve([json.dumps(it) for it in [*commands, *requests]])[len(commands):])):
                 if "refused" in reply:
-                    told = [re.fullmatch(r"(.*\.)(?: \((\d+)\))?", it).groups() for it in tree(reply["explanation"]).sentences()]
-                    concluded = Reader(registry, request).read([(number and int(number), text) for text, number in told])
+                    told = [re.fullmatch(r"(.*\.)(?: \((\d+)\))?", it).groups()
+                            for it in tree(reply["explanation"]).sentences()]
+                    concluded = Reader(registry,
+                                       request).read([(number and int(number), text) for text, number in told])
                     self.assertEqual((len(concluded), concluded[-1]), (len(reply["derivation"]), {}))
                     count += 1
         self.assertGreater(count, 300)
 
     def test_what_is_no_explanation(self):
-        for line in ("", "1. never ()", "1. never (), because the request must be met", "1. never (), because a has b and the request must be met"):
+        for line in ("", "1. never ()", "1. never (), because the request must be met",
+                     "1. never (), because a has b and the request must be met"):
             with self.subTest(line), self.assertRaisesRegex(ValueError, "^this is no step of an explanation: "):
                 tree([line, "So no selection meets the request."])
 
@@ -206,9 +203,6 @@ class Told(Case):
             for future in registry.many(Publish("a", f"{number}.0.0", {f"n{number}": "*"}) for number in range(1500)):
                 future.result(SECONDS)
             nodes = self.walked(registry, {"a": "*"})
-            self.assertEqual({it.target for it in nodes if isinstance(it, External) and it.kind == "premise"}, {f"n{number}" for number in range(1500)})
+            self.assertEqual({it.target for it in nodes if isinstance(it, External) and it.kind == "premise"},
+                             {f"n{number}" for number in range(1500)})
             self.assertIn("Derived", repr(nodes[0]))
-
-
-if __name__ == "__main__":
-    unittest.main()

@@ -1,11 +1,11 @@
-"""The file that a session keeps its journal in: cut, damaged, held by another session, changed by someone else, or none at all."""
+"""The file that a session keeps its journal in: cut, damaged, held by another session, changed by someone else, or none
+at all."""
 import os
 import random
 import shutil
 import stat
 import subprocess
 import tempfile
-import unittest
 
 from registry_cli.limits import MOST_COMMANDS, MOST_LINE_BYTES, MOST_VERSIONS
 from tests.program.test_journals import CHAIN, Sessions, damaged, journal, learn, random_journal
@@ -16,6 +16,7 @@ from tests.support.program import LIST, PROGRAM, journal_line, publish, run, uny
 ACCEPTED = '{"ok":true,"revision":%d}\n'
 LEARNT = journal([*CHAIN, learn(0), yank("c", "1.0.0"), unyank("c", "1.0.0")])
 PLAIN = journal([*CHAIN, yank("c", "1.0.0"), unyank("c", "1.0.0")], 1)
+CHANGED = "registryd: journal %s: changed by another program, and not gone on with\n"
 UNSAVED = b"registryd: output failed\n"
 NOBODY = 65_534
 
@@ -29,7 +30,8 @@ class Keeping(Sessions):
 
     def keep(self, lines=(), workers="1", path=None):
         """The replies of a session that ends well."""
-        done = run(["serve", "--workers", workers, "--journal", path or self.kept], "".join(line + "\n" for line in lines).encode())
+        done = run(["serve", "--workers", workers, "--journal", path or self.kept],
+                   "".join(line + "\n" for line in lines).encode())
         self.assertEqual((done.returncode, done.stderr), (0, b""))
         return done.stdout.decode()
 
@@ -42,7 +44,8 @@ class Keeping(Sessions):
             done = run(["serve", "--workers", "1", "--journal", path], stdin=folder, **more)
         finally:
             os.close(folder)
-        self.assertEqual((done.returncode, done.stdout, done.stderr.decode()), (1, b"", f"registryd: journal {path}: {words}\n"))
+        self.assertEqual((done.returncode, done.stdout, done.stderr.decode()),
+                         (1, b"", f"registryd: journal {path}: {words}\n"))
         if text is not None:
             self.assertEqual(self.read(path), text)
 
@@ -54,7 +57,9 @@ class Cuts(Keeping):
                 self.write(self.kept, text[:cut])
                 self.assertEqual(self.keep(), "")
                 whole = [line for line in text[:cut].split(b"\n")[1:-1] if not line.startswith(b"end")]
-                self.assertEqual(self.read(self.kept), b"".join(line + b"\n" for line in [b"registry-journal 2", *whole, b"end %d" % len(whole)]), cut)
+                self.assertEqual(self.read(self.kept),
+                                 b"".join(line + b"\n"
+                                          for line in [b"registry-journal 2", *whole, b"end %d" % len(whole)]), cut)
         self.assertEqual(self.beside(), ["kept"])
 
     def test_what_was_cut_off_is_gone_on_with(self):
@@ -63,7 +68,8 @@ class Cuts(Keeping):
             self.write(self.kept, LEARNT[:cut])
             done = [line for line in LEARNT[:cut].split(b"\n")[1:-1] if line.startswith(b'{"n')]
             commands = [*CHAIN, yank("c", "1.0.0"), unyank("c", "1.0.0")]
-            self.assertEqual(self.keep(commands[len(done):]), "".join(ACCEPTED % number for number in range(len(done) + 1, 6)))
+            self.assertEqual(self.keep(commands[len(done):]),
+                             "".join(ACCEPTED % number for number in range(len(done) + 1, 6)))
             kept = remnant(self.read(self.kept))
             self.assertEqual(kept.commands, [journal_line(line).encode() for line in commands])
 
@@ -71,14 +77,19 @@ class Cuts(Keeping):
         for rest in (b"\0" * 9, b'{"derivation"', b"en", b"end", b"end 5", b"x" * MOST_LINE_BYTES, b"\xff"):
             self.write(self.kept, PLAIN[:PLAIN.index(b"end")] + rest)
             self.assertEqual(self.keep([publish("z", "1.0.0")]), ACCEPTED % 6)
-            self.assertEqual(self.read(self.kept), journal([*CHAIN, yank("c", "1.0.0"), unyank("c", "1.0.0"), publish("z", "1.0.0")]))
+            self.assertEqual(self.read(self.kept),
+                             journal([*CHAIN, yank("c", "1.0.0"), unyank("c", "1.0.0"), publish("z", "1.0.0")]))
 
     def test_a_file_that_is_no_journal_stays_as_it_is(self):
         lines = PLAIN.splitlines(True)
-        for text, line in ((b"hello", 1), (b"hello\n", 1), (b"registry-journal 3\n", 1), (b"registry-journal 22", 1), (b"\n", 1),
-                           (LEARNT + b"x", 9), (LEARNT + b"\n", 9), (b"".join(lines[:3]) + b"end 3\n", 4), (b"".join(lines[:3]) + lines[2], 4),
-                           (lines[0] + b"\0\n", 2), (lines[0] + b"end 1\n", 2), (b"".join(lines[:4]) + b"x" * (MOST_LINE_BYTES + 1), 5),
-                           (b"".join(lines[:3]) + b"end 2\n" + lines[3], 5), (lines[0] + lines[1].replace(b",", b", "), 2)):
+        for text, line in ((b"hello", 1), (b"hello\n", 1), (b"registry-journal 3\n", 1),
+                           (b"registry-journal 22", 1), (b"\n", 1),
+                           (LEARNT + b"x", 9), (LEARNT + b"\n", 9), (b"".join(lines[:3]) + b"end 3\n", 4),
+                           (b"".join(lines[:3]) + lines[2], 4),
+                           (lines[0] + b"\0\n", 2), (lines[0] + b"end 1\n", 2),
+                           (b"".join(lines[:4]) + b"x" * (MOST_LINE_BYTES + 1), 5),
+                           (b"".join(lines[:3]) + b"end 2\n" + lines[3], 5),
+                           (lines[0] + lines[1].replace(b",", b", "), 2)):
             self.write(self.kept, text)
             self.refused(f"line {line} is not a journal's, and nothing was changed", text=text)
 
@@ -92,12 +103,14 @@ class Cuts(Keeping):
 
     def test_damages(self):
         rng = random.Random(49)
-        faults = sum(self.is_refused(damaged(rng, random_journal(rng))[:rng.choice([None, None, -1, -9])]) for _ in range(300))
+        faults = sum(self.is_refused(damaged(rng, random_journal(rng))[:rng.choice([None, None, -1, -9])])
+                     for _ in range(300))
         self.assertGreater(faults, 100)
         self.assertLess(faults, 290)
 
     def is_refused(self, text):
-        """Whether a text is refused, which it is at the line that the plain reader tells, or is gone on with as that reads it."""
+        """Whether a text is refused, which it is at the line that the plain reader tells, or is gone on with as that
+        reads it."""
         self.write(self.kept, text)
         try:
             found = remnant(text)
@@ -112,7 +125,8 @@ class Cuts(Keeping):
         lines = [publish(f"p{p}", f"1.{v}.0") for p in range(13) for v in range(MOST_VERSIONS)][:MOST_COMMANDS]
         self.write(self.kept, journal(lines[:-1])[:-3])
         full = f'{{"error":10,"name":"JournalFull","revision":{MOST_COMMANDS}}}\n'
-        self.assertEqual(self.keep([lines[-1], publish("more", "1.0.0"), yank("p0", "1.0.0")]), ACCEPTED % MOST_COMMANDS + 2 * full)
+        self.assertEqual(self.keep([lines[-1], publish("more", "1.0.0"), yank("p0", "1.0.0")]),
+                         ACCEPTED % MOST_COMMANDS + 2 * full)
         self.assertEqual(self.read(self.kept), journal(lines))
         self.assertEqual(self.keep([yank("p0", "1.0.0")], "4"), full)
         self.assertEqual(self.read(self.kept), journal(lines))
@@ -160,15 +174,15 @@ class Others(Keeping):
         self.assertEqual(self.read(self.kept), journal([publish("a", f"1.{number}.0") for number in range(1, 6)]))
 
     def changed(self, change, left, there=None):
-        """A session goes on with no file that someone else has changed, and tells so; nothing that rests on it is told. What is left stands
-        in the file of its name, and in the one that has the name `there`."""
+        """A session goes on with no file that someone else has changed, and tells so; nothing that rests on it is told.
+        What is left stands in the file of its name, and in the one that has the name `there`."""
         client = self.talking()
         change()
         client.send([publish("b", "1.0.0"), LIST])
         status, told = client.leave()
-        self.assertEqual((client.read.decode(), status, told.decode()),
-                         (ACCEPTED % 1, 1, f"registryd: journal {self.kept}: changed by another program, and not gone on with\n"))
-        self.assertEqual([self.read(path) if os.path.exists(path) else None for path in (self.kept, self.there)], [left, there])
+        self.assertEqual((client.read.decode(), status, told.decode()), (ACCEPTED % 1, 1, CHANGED % self.kept))
+        self.assertEqual([self.read(path) if os.path.exists(path) else None for path in (self.kept, self.there)],
+                         [left, there])
         for path in self.beside():
             os.unlink(os.path.join(self.folder, path))
 
@@ -180,7 +194,8 @@ class Others(Keeping):
         one = journal([publish("a", "1.0.0")])
         begun, other = one[:one.index(b"end")], os.path.join(self.folder, "other")
         self.changed(lambda: self.append(b"x"), begun + b"x")
-        self.changed(lambda: self.append(journal_line(publish("c", "1.0.0")).encode() + b"\n"), begun + journal_line(publish("c", "1.0.0")).encode() + b"\n")
+        self.changed(lambda: self.append(journal_line(publish("c", "1.0.0")).encode() + b"\n"),
+                     begun + journal_line(publish("c", "1.0.0")).encode() + b"\n")
         self.changed(lambda: os.truncate(self.kept, 5), begun[:5])
         self.changed(lambda: os.truncate(self.kept, 0), b"")
         self.changed(lambda: self.write(self.kept, one + one), one + one)
@@ -198,7 +213,8 @@ class Others(Keeping):
         for change, left in ((lambda: os.rename(self.kept, self.there), None),
                              (lambda: (os.link(self.kept, self.there), os.unlink(self.kept)), None),
                              (lambda: with_a_copy(os.rename), begun), (lambda: with_a_copy(os.link), begun),
-                             (lambda: (os.rename(self.kept, self.there), self.keep([publish("z", "1.0.0")])), journal([publish("z", "1.0.0")]))):
+                             (lambda: (os.rename(self.kept, self.there), self.keep([publish("z", "1.0.0")])),
+                              journal([publish("z", "1.0.0")]))):
             self.changed(change, left, begun)
 
     def test_a_link_that_leads_elsewhere(self):
@@ -223,7 +239,7 @@ class Others(Keeping):
             self.assertTrue(client.read_until(1))
             os.unlink(self.kept)
             client.send([publish("b", "1.0.0")])
-            self.assertEqual(client.leave(), (1, f"registryd: journal {path}: changed by another program, and not gone on with\n".encode()))
+            self.assertEqual(client.leave(), (1, (CHANGED % path).encode()))
         self.assertEqual(client.read.decode(), ACCEPTED % 1)
 
     def test_a_name_that_leads_to_it_again(self):
@@ -246,8 +262,7 @@ class Others(Keeping):
         for change in (lambda: self.append(b"x"), lambda: os.rename(self.kept, self.there)):
             client = self.talking()
             change()
-            status, told = client.leave()
-            self.assertEqual((status, told.decode()), (1, f"registryd: journal {self.kept}: changed by another program, and not gone on with\n"))
+            self.assertEqual(client.leave(), (1, (CHANGED % self.kept).encode()))
             self.write(self.kept, b"")
 
 
@@ -262,7 +277,8 @@ class Places(Keeping):
         self.assertTrue(stat.S_ISFIFO(os.stat(fifo).st_mode))
 
     def test_where_no_file_can_be_made(self):
-        self.refused("can't be created: No such file or directory (os error 2)", os.path.join(self.folder, "none", "file"))
+        self.refused("can't be created: No such file or directory (os error 2)",
+                     os.path.join(self.folder, "none", "file"))
         self.refused("can't be opened: File name too long (os error 36)", os.path.join(self.folder, "n" * 256))
         self.write(self.kept, b"")
         self.refused("can't be opened: Not a directory (os error 20)", os.path.join(self.kept, "file"))
@@ -280,11 +296,14 @@ class Places(Keeping):
         self.assertEqual(self.read(link), journal([publish("a", f"1.{number}.0") for number in (1, 2, 3)]))
         self.assertEqual(os.listdir(os.path.join(self.folder, "there")), ["kept"])
         os.symlink("loop", os.path.join(self.folder, "loop"))
-        self.refused("can't be opened: Too many levels of symbolic links (os error 40)", os.path.join(self.folder, "loop"))
+        self.refused("can't be opened: Too many levels of symbolic links (os error 40)",
+                     os.path.join(self.folder, "loop"))
 
     def test_a_name_with_control_characters_is_told_in_one_line(self):
-        done = run(["serve", "--workers", "1", "--journal", "a\nb\x1b[1m\x7f\u00e9 \\x/kept"], LIST.encode(), cwd=self.folder)
-        told = "registryd: journal a\\x0ab\\x1b[1m\\x7f\u00e9 \\x/kept: can't be created: No such file or directory (os error 2)\n"
+        done = run(["serve", "--workers", "1", "--journal", "a\nb\x1b[1m\x7f\u00e9 \\x/kept"], LIST.encode(),
+                   cwd=self.folder)
+        told = ("registryd: journal a\\x0ab\\x1b[1m\\x7f\u00e9 \\x/kept: "
+                "can't be created: No such file or directory (os error 2)\n")
         self.assertEqual((done.returncode, done.stdout, done.stderr.decode()), (1, b"", told))
 
     def test_what_another_user_may_not_write(self):
@@ -295,15 +314,14 @@ class Places(Keeping):
         file = os.path.join(folder, "file")
         self.write(file, journal(CHAIN))
         for modes, path, words in (((0o444, 0o755), file, "can't be opened"), ((0o200, 0o755), file, "can't be opened"),
-                                   ((0o644, 0o555), os.path.join(folder, "none"), "can't be created"), ((0o644, 0o000), file, "can't be opened")):
+                                   ((0o644, 0o555), os.path.join(folder, "none"), "can't be created"),
+                                   ((0o644, 0o000), file, "can't be opened")):
             os.chmod(file, modes[0])
             os.chmod(folder, modes[1])
-            done = subprocess.run([program, "serve", "--workers", "1", "--journal", path], input=LIST.encode(), capture_output=True, timeout=100,
+            done = subprocess.run([program, "serve", "--workers", "1", "--journal", path], input=LIST.encode(),
+                                  capture_output=True, timeout=100,
                                   user=NOBODY if os.getuid() == 0 else None)
             os.chmod(folder, 0o755)
-            self.assertEqual((done.returncode, done.stdout, done.stderr.decode()), (1, b"", f"registryd: journal {path}: {words}: Permission denied (os error 13)\n"))
+            self.assertEqual((done.returncode, done.stdout, done.stderr.decode()),
+                             (1, b"", f"registryd: journal {path}: {words}: Permission denied (os error 13)\n"))
             self.assertEqual((os.listdir(folder), self.read(file)), (["file"], journal(CHAIN)))
-
-
-if __name__ == "__main__":
-    unittest.main()

@@ -1,25 +1,14 @@
-"""What a session that keeps a journal answers, and when: as one without, no reply later than it must be, and no sync too many."""
+"""What a session that keeps a journal answers, and when: as one without, and with no sync too many."""
 import os
-import unittest
 
 from tests.program.test_batches import CLASHING, TOPS
 from tests.program.test_journals import CONFLICT, Sessions
-from tests.support.durable_sessions import Client, Watched
-from tests.support.plain_remnant import remnant
+from tests.support.durable_sessions import Watched
 from tests.support.preloaded import WATCH_CALLS, built
-from tests.support.program import LIST, journal_line, publish, resolve, run, yank
+from tests.support.program import LIST, publish, resolve, run, yank
 from tests.support.tables import tables_under
 
-PIGEONS = 15
-HOPELESS = [f"pigeon-{number} *" for number in range(PIGEONS)]
 TEACHING = resolve(*(f"t{number} *" for number in range(TOPS)))
-SILENCE = 0.3  # seconds
-
-
-def holes():
-    """Pigeons in one hole less: that they don't all fit shows in a search of many minutes."""
-    return [*(publish(f"hole-{hole}", f"{pigeon}.0.0") for hole in range(PIGEONS - 1) for pigeon in range(PIGEONS)),
-            *(publish(f"pigeon-{pigeon}", f"{hole}.0.0", [f"hole-{hole} ={pigeon}.0.0"]) for pigeon in range(PIGEONS) for hole in range(PIGEONS - 1))]
 
 
 class Replies(Sessions):
@@ -31,8 +20,8 @@ class Replies(Sessions):
         super().setUp()
         self.kept = os.path.join(self.folder, "kept")
 
-    def words(self, workers, is_kept=True):
-        return ["serve", "--workers", workers, *(["--journal", self.kept] if is_kept else [])]
+    def words(self, workers):
+        return ["serve", "--workers", workers, "--journal", self.kept]
 
     def test_the_same_replies_and_the_same_file(self):
         for table in tables_under("lines"):
@@ -45,36 +34,8 @@ class Replies(Sessions):
                     self.assertEqual(self.read(self.kept), self.read(self.saved))
                     os.unlink(self.kept)
 
-    def before_a_search(self, lines, first, more=()):
-        """Lines that come in one piece with a request whose search takes very long: those before it are answered meanwhile."""
-        for workers in ("1", "4"):
-            for is_kept in (True, False):
-                with self.subTest(workers=workers, is_kept=is_kept):
-                    client = Client(self.words(workers, is_kept))
-                    client.send([*holes(), *lines, *more])
-                    try:
-                        count = len(holes()) + first
-                        self.assertTrue(client.read_until(count))
-                        self.assertTrue(client.is_silent(SILENCE))
-                        self.assertEqual(len(client.replies()), count)
-                    finally:
-                        client.kill()
-                    if is_kept:
-                        commands = remnant(self.read(self.kept)).commands
-                        self.assertEqual(commands[:len(holes())], [journal_line(line).encode() for line in holes()])
-                        os.unlink(self.kept)
-
-    def test_what_comes_before_a_long_search(self):
-        self.before_a_search([LIST, resolve(*HOPELESS)], 1)
-
-    def test_requests_before_a_long_search(self):
-        self.before_a_search([resolve("hole-1 *"), resolve("none *"), resolve(*HOPELESS), resolve("hole-2 *")], 2)
-
-    def test_a_long_search_that_is_to_be_explained(self):
-        self.before_a_search([publish("more", "1.0.0"), resolve("more *"), resolve(*HOPELESS, explain=True)], 2, [publish("more", "2.0.0"), LIST])
-
     def steps(self, steps, workers="1"):
-        """The calls of a session, for each step of its lines those between the read that brought it and the next one."""
+        """The calls of a session: for each step of its lines those between its read and the next one."""
         watched = Watched(self.library, self.words(workers))
         status, told, calls = watched.follow(steps)
         self.assertEqual((status, told), (0, b""))
@@ -90,7 +51,8 @@ class Replies(Sessions):
         for workers in ("1", "4"):
             steps = [[publish("a", f"1.{number}.0")] for number in range(50)]
             self.assertEqual(self.syncs(steps, workers), [1] * 50)
-            steps = [[publish("a", "1.0.0")], [yank("a", "1.7.0")], [yank("a", "1.7.0")], [LIST], ["no line"], [resolve("a *")], [resolve("b *", explain=True)],
+            steps = [[publish("a", "1.0.0")], [yank("a", "1.7.0")], [yank("a", "1.7.0")], [LIST], ["no line"],
+                     [resolve("a *")], [resolve("b *", explain=True)],
                      [resolve("a ^2")], [publish("b", "1.0.0")]]
             self.assertEqual(self.syncs(steps, workers), [0, 1, 0, 0, 0, 0, 0, 0, 1])
             os.unlink(self.kept)
@@ -116,7 +78,3 @@ class Replies(Sessions):
             self.assertIn(b'"selected":[[', text)
             self.assertTrue(any(b'{"derivation":' in text for _, text in more))
             os.unlink(self.kept)
-
-
-if __name__ == "__main__":
-    unittest.main()

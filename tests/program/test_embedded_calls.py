@@ -1,5 +1,5 @@
-"""Sessions in process under a careless caller: nulls, lengths, numbers of no session, many sessions, processes that are forked, threads at
-one session; by itself, under valgrind, and under the sanitizers of the C compiler."""
+"""Sessions in process under a careless caller: nulls, lengths, numbers of no session, many sessions, processes that are
+forked, threads at one session; by itself, under valgrind, and under the sanitizers of the C compiler."""
 import os
 import subprocess
 import tempfile
@@ -16,7 +16,8 @@ PATIENCE = 300  # seconds, under valgrind and on a busy machine too
 ADDRESS = ["-g", "-fsanitize=address,undefined", "-fno-sanitize-recover"]
 THREADS = ["-g", "-fsanitize=thread"]
 # What the archive keeps of a session that a forked process forsakes is no leak of the process itself.
-VALGRIND = ["valgrind", "-q", "--error-exitcode=99", "--leak-check=full", "--errors-for-leak-kinds=definite", "--trace-children=no"]
+VALGRIND = ["valgrind", "-q", "--error-exitcode=99", "--leak-check=full", "--errors-for-leak-kinds=definite",
+            "--trace-children=no"]
 
 
 @needs_library
@@ -34,7 +35,8 @@ class Calls(unittest.TestCase):
         """The calls of such a kind hold, and nothing is said."""
         for word in what:
             with self.subTest(word), tempfile.TemporaryDirectory(dir=self.folder) as folder:
-                done = subprocess.run([*before, self.caller, word, PROGRAM], cwd=folder, stdin=subprocess.DEVNULL, stdout=subprocess.PIPE,
+                done = subprocess.run([*before, self.caller, word, PROGRAM], cwd=folder, stdin=subprocess.DEVNULL,
+                                      stdout=subprocess.PIPE,
                                       stderr=subprocess.PIPE, timeout=PATIENCE, check=False)
                 self.assertEqual((done.returncode, done.stdout, done.stderr), (0, b"", b""))
 
@@ -54,7 +56,3 @@ class Calls(unittest.TestCase):
     def test_under_the_sanitizer_of_threads(self):
         linked_with_sources(self.caller, CALLS, *THREADS)
         self.tried("calls", "threads")
-
-
-if __name__ == "__main__":
-    unittest.main()

@@ -1,6 +1,5 @@
-"""A session in process keeps and saves its journal as the program does, in files that are cut, damaged, held or changed, and by calls that
-fail: with the program's own tests."""
-import unittest
+"""A session in process keeps and saves its journal as the program does, in files that are cut, damaged, held or
+changed, and by calls that fail: with the program's own tests."""
 
 import pytest
 
@@ -32,7 +31,3 @@ class SavedBySeveral(InProcess, test_saved_files.Several):
 
 class SavedByCalls(InProcess, test_saved_files.Calls):
     LOOKS = ("fstat", "stat")
-
-
-if __name__ == "__main__":
-    unittest.main()

@@ -1,5 +1,5 @@
-"""What a session in process tells, and when, where its disk is full, where calls fail, and where all is well: with the program's own tests."""
-import unittest
+"""What a session in process tells, and when, where its disk is full, where calls fail, and where all is well: with the
+program's own tests."""
 
 import pytest
 
@@ -20,13 +20,12 @@ class Failing(InProcess, test_durable_full.Failing):
 
 
 class Replies(InProcess, test_durable_replies.Replies):
-    """But for those tests that ask for a reply before a later line of the same piece is answered: a call that feeds lines returns when all
-    of them are."""
-    test_what_comes_before_a_long_search = test_requests_before_a_long_search = test_a_long_search_that_is_to_be_explained = None
+    """A call that feeds lines returns when all of them are answered."""
 
     def test_at_most_one_sync_for_what_a_request_taught(self):
         request = resolve("foo >=1.0.0")
-        first, *taught, published, listed = self.syncs([CONFLICT, [request], [request], [publish("a", "1.0.0")], [LIST]])
+        first, *taught, published, listed = self.syncs([CONFLICT, [request], [request],
+                                                        [publish("a", "1.0.0")], [LIST]])
         self.assertEqual((first, published, listed), (1, 1, 0))
         self.assertLessEqual(sum(taught), 1)
         self.assertIn(b'\n{"derivation":', self.read(self.kept))
@@ -34,10 +33,7 @@ class Replies(InProcess, test_durable_replies.Replies):
     def test_a_reply_does_not_wait_for_what_it_taught(self):
         # the reply to a later line does
         _, calls, more = self.steps([test_durable_replies.CLASHING, [test_durable_replies.TEACHING], [LIST]])
-        written = [[(call.number == 1, b'"selected":[[' in call.given, b'{"derivation":' in call.given) for call in step if call.name == "write"]
+        written = [[(call.number == 1, b'"selected":[[' in call.given, b'{"derivation":' in call.given)
+                    for call in step if call.name == "write"]
                    for step in (calls, more)]
         self.assertEqual(written, [[(True, True, False)], [(False, False, True), (True, False, False)]])
-
-
-if __name__ == "__main__":
-    unittest.main()

@@ -1,6 +1,5 @@
-"""A session in process is killed as the program is, at each call and under load, crashes with its machine, and has its file moved: with the
-program's own tests, each with the judge that it has."""
-import unittest
+"""A session in process is killed as the program is, at each call and under load, crashes with its machine, and has its
+file moved: with the program's own tests, each with the judge that it has."""
 
 import pytest
 
@@ -20,7 +19,3 @@ class UnderLoad(InProcess, test_kill_sessions.Kills):
 
 class Moves(InProcess, test_move_journals.Moves):
     pass
-
-
-if __name__ == "__main__":
-    unittest.main()

@@ -1,8 +1,7 @@
-"""Sessions in process give the replies and the journals of the program, byte for byte, over every table of lines, however the lines are cut
-into pieces; and what they load, save and refuse is what the program does."""
+"""Sessions in process give the replies and the journals of the program, byte for byte, over every table of lines,
+however the lines are cut into pieces; and what they load, save and refuse is what the program does."""
 import os
 import subprocess
-import unittest
 
 import pytest
 
@@ -27,7 +26,8 @@ class Lines(Sessions):
 
     def in_process(self, words, given, piece=65_536):
         """What a session in process says, how it ends, and what it tells."""
-        done = subprocess.run([self.serve, "serve", *words], input=given, env={**os.environ, "EMBEDDED_PIECE": str(piece)},
+        done = subprocess.run([self.serve, "serve", *words], input=given,
+                              env={**os.environ, "EMBEDDED_PIECE": str(piece)},
                               stdout=subprocess.PIPE, stderr=subprocess.PIPE, timeout=100, check=False)
         return done.stdout, done.returncode, done.stderr
 
@@ -48,7 +48,8 @@ class Lines(Sessions):
         self.assertGreater(pieces, 800)
 
     def test_a_last_line_without_its_line_feed(self):
-        for given in (b'{"op":"list"}', b'{"op":"list"}\n{"op"', b"\n\n", b"", b" ", b"x" * 2_000_000, b"x" * 2_000_000 + b"\n", b"\xff\0"):
+        for given in (b'{"op":"list"}', b'{"op":"list"}\n{"op"', b"\n\n", b"", b" ", b"x" * 2_000_000, b"x" * 2_000_000
+                      + b"\n", b"\xff\0"):
             program = run(["serve", "--workers", "1"], given)
             for words in ([], ["--journal", self.kept]):
                 self.assertEqual(self.in_process(words, given), (program.stdout, program.returncode, program.stderr))
@@ -58,38 +59,40 @@ class Lines(Sessions):
             self.write(self.loaded, text)
             given = b'{"op":"list"}\n{"op":"resolve","needs":[["foo",">=1.0.0"]]}\n'
             program = run(["serve", "--workers", "1", "--load", self.loaded, "--save", self.theirs], given)
-            self.assertEqual(self.in_process(["--load", self.loaded, "--save", self.saved], given), (program.stdout, 0, b""))
+            self.assertEqual(self.in_process(["--load", self.loaded, "--save", self.saved], given),
+                             (program.stdout, 0, b""))
             self.assertEqual(self.read(self.saved), self.read(self.theirs))
 
     def test_what_is_no_journal(self):
         whole = CHAIN_LEARNT
-        for text in (b"", b"hello\n", whole[:-1], whole + b"\n", whole.replace(b"end 4", b"end 5"), whole.replace(b",", b", ", 1), *(whole[:cut] for cut in range(0, len(whole), 9))):
+        for text in (b"", b"hello\n", whole[:-1], whole + b"\n", whole.replace(b"end 4", b"end 5"),
+                     whole.replace(b",", b", ", 1), *(whole[:cut] for cut in range(0, len(whole), 9))):
             self.write(self.loaded, text)
             self.write(self.saved, b"as it was")
             program = run(["serve", "--workers", "1", "--load", self.loaded], b"")
             line = int(program.stderr.split()[-1])
             told = f"registryd: journal {self.loaded}: line {line} is not a journal's, and nothing was changed\n"
-            self.assertEqual(self.in_process(["--load", self.loaded, "--save", self.saved], b""), (b"", 1, told.encode()))
+            self.assertEqual(self.in_process(["--load", self.loaded, "--save", self.saved], b""),
+                             (b"", 1, told.encode()))
             self.assertEqual(self.read(self.saved), b"as it was")
 
     def test_the_program_and_a_session_in_process_exclude_each_other(self):
         told = f"registryd: journal {self.kept}: in use by another session\n".encode()
         for one, other in ((PROGRAM, self.serve), (self.serve, PROGRAM)):
-            with subprocess.Popen([one, "serve", "--workers", "1", "--journal", self.kept], stdin=subprocess.PIPE, stdout=subprocess.PIPE, bufsize=0) as holder:
+            with subprocess.Popen([one, "serve", "--workers", "1", "--journal", self.kept], stdin=subprocess.PIPE,
+                                  stdout=subprocess.PIPE, bufsize=0) as holder:
                 holder.stdin.write(b'{"op":"list"}\n')
                 self.assertTrue(holder.stdout.readline())
-                done = subprocess.run([other, "serve", "--workers", "1", "--journal", self.kept], input=b"", capture_output=True, timeout=100, check=False)
+                done = subprocess.run([other, "serve", "--workers", "1", "--journal", self.kept], input=b"",
+                                      capture_output=True, timeout=100, check=False)
                 self.assertEqual((done.returncode, done.stdout, done.stderr), (1, b"", told))
                 holder.stdin.close()
                 self.assertEqual(holder.wait(), 0)
 
     def test_each_goes_on_with_what_the_other_left(self):
         given = [line.encode() + b"\n" for line in CONFLICT]
-        ways = (lambda line: run(["serve", "--workers", "1", "--journal", self.kept], line).stdout, lambda line: self.in_process(["--journal", self.kept], line)[0])
+        ways = (lambda line: run(["serve", "--workers", "1", "--journal", self.kept], line).stdout,
+                lambda line: self.in_process(["--journal", self.kept], line)[0])
         for number, line in enumerate(given):
             self.assertEqual(ways[number % 2](line), b'{"ok":true,"revision":%d}\n' % (number + 1))
         self.assertEqual(self.read(self.kept), journal(CONFLICT))
-
-
-if __name__ == "__main__":
-    unittest.main()

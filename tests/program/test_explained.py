@@ -27,7 +27,9 @@ def told(known, request, rows):
         return "{" + ", ".join(held[it][0] if it < len(held) else f"#{it}" for it in ordinals) + "}"
 
     def term(name, inside, ordinals):
-        shown = "the request" if name == "" and ordinals == [0] else f"{name or 'the request'} {members(name, ordinals)}"
+        shown = name or "the request"
+        if name or ordinals != [0]:
+            shown += f" {members(name, ordinals)}"
         return shown if inside else "not " + shown
 
     def cause(it):
@@ -39,7 +41,8 @@ def told(known, request, rows):
             return f"{it['name']} {members(it['name'], it['versions'])} is not allowed"
         if it["fact"] == "need":
             target, requirement = request["needs"][it["index"]]
-            return f'the request needs {target} "{requirement}" in {members(target, known.matching(target, requirement))}'
+            met = members(target, known.matching(target, requirement))
+            return f'the request needs {target} "{requirement}" in {met}'
         return (f'{it["name"]} {members(it["name"], it["versions"])} needs {it["target"]} "{it["need"]}" '
                 f'in {members(it["target"], it["within"])}')
 
@@ -66,7 +69,8 @@ def distances(cited, order):
 
 class Explained(unittest.TestCase):
     def explained(self, lines, requests):
-        """The program's refusals of these requests after these lines, each with its request; the tool says of all that they follow."""
+        """The program's refusals of these requests after these lines, each with its request; the tool says of all that
+        they follow."""
         every = [*map(json.loads, lines), *requests]
         replies = [json.loads(it) for it in serve([json.dumps(it) for it in every])]
         status, printed = said_of(every, replies)
@@ -84,7 +88,8 @@ class Explained(unittest.TestCase):
         self.well_ordered([[it["line"] - 1 for it in row["causes"] if "line" in it] for row in rows])
 
     def well_ordered(self, cited):
-        """Each line but the last is cited, and stands as near as it can to the first that cites it, with nothing between that this one does not rest on."""
+        """Each line but the last is cited, and stands as near as it can to the first that cites it, with nothing
+        between that this one does not rest on."""
         rests, first = [], {}
         for place, places in enumerate(cited):
             rests.append(set(places).union(*(rests[it] for it in places)))
@@ -96,7 +101,8 @@ class Explained(unittest.TestCase):
             self.assertLessEqual(set(range(place + 1, user)), rests[user])
             moved = [line for line in range(len(cited)) if line != place]
             moved.insert(moved.index(user), place)
-            self.assertGreaterEqual(distances(cited, moved), least, "a line could stand nearer to the first that cites it")
+            self.assertGreaterEqual(distances(cited, moved), least, "a line could stand nearer to the first that cites "
+                                                                    "it")
 
     def test_worked(self):
         for name, (lines, request, by_hand) in WORKED.items():
@@ -126,18 +132,22 @@ class Explained(unittest.TestCase):
                 self.well_told(known, request, reply)
             lines = [checking(request, reply["derivation"]) for request, reply in found]
             answers = serve([*map(json.dumps, commands), *lines])[len(commands):]
-            self.assertEqual(list(map(json.loads, answers)), [{"follows": True, "revision": len(commands)}] * len(found))
+            self.assertEqual(list(map(json.loads, answers)),
+                             [{"follows": True, "revision": len(commands)}] * len(found))
             count += len(found)
         self.assertGreater(count, 300)
 
     def test_many_reasons(self):
-        # Each version of a package is ruled out for a reason of its own, and there is one line for each. Sixteen lines and more are
-        # put together pairwise: of 64 versions the lines name each as one of 2, of 4, and so on up to 64, so six times. Fifteen
+        # Each version of a package is ruled out for a reason of its own, and there is one line for each. Sixteen lines
+        # and more are
+        # put together pairwise: of 64 versions the lines name each as one of 2, of 4, and so on up to 64, so six times.
+        # Fifteen
         # lines or fewer each name one version more than the one before.
         for versions, named in ((64, 6 * 64), (14, sum(range(2, 15)))):
             lines = [publish("q", "1.0.0"), publish("q", "2.0.0")]
             lines += [publish("a", f"1.{number}.0", [f"q >=2.0.0, <3.{number}.0"]) for number in range(versions)]
-            (request, reply), = self.explained(lines, [{"op": "resolve", "needs": [["a", "*"], ["q", "^1"]], "explain": True}])
+            (request, reply), = self.explained(lines, [{"op": "resolve", "needs": [["a", "*"], ["q", "^1"]],
+                                                        "explain": True}])
             self.well_told(Known(map(json.loads, lines)), request, reply)
             rows = reply["derivation"]
             self.assertEqual(len(rows), versions + 1)
@@ -147,9 +157,11 @@ class Explained(unittest.TestCase):
 
     def test_damaged(self):
         for commands, known, found, rng in self.random_refusals(range(1000, 1030)):
-            damages = [damage for request, reply in found for damage in self.damages(known, request, reply["derivation"], rng)]
+            damages = [damage for request, reply in found
+                       for damage in self.damages(known, request, reply["derivation"], rng)]
             accepted = [{"ok": True, "revision": number} for number in range(1, len(commands) + 1)]
-            replies = [{"derivation": damage.rows, "explanation": [], "refused": True, "revision": len(commands)} for _, damage in damages]
+            replies = [{"derivation": damage.rows, "explanation": [], "refused": True, "revision": len(commands)} for _,
+                       damage in damages]
             status, printed = said_of([*commands, *(damage.request for _, damage in damages)], [*accepted, *replies])
             for (kind, damage), said in zip(damages, printed.splitlines(), strict=True):
                 self.assertIn(" does not follow: ", said, (kind, damage.request, damage.rows))
@@ -181,7 +193,8 @@ class Files(unittest.TestCase):
 
     def test_a_session(self):
         lines = [*CHAIN[0], json.dumps(asked(CHAIN[1]))]
-        done = subprocess.run([TOOL, self.file("asked", lines), self.file("told", serve(lines))], stdout=subprocess.PIPE, text=True, timeout=100)
+        done = subprocess.run([TOOL, self.file("asked", lines), self.file("told", serve(lines))],
+                              stdout=subprocess.PIPE, text=True, timeout=100)
         self.assertEqual((done.returncode, done.stdout), (0, "request 5: the refusal at revision 4 follows\n"))
 
     def test_a_race(self):
@@ -189,8 +202,10 @@ class Files(unittest.TestCase):
         request = {"op": "resolve", "needs": [["a", "^1"], ["b", "^1"]], "explain": True}
         rows = [{"causes": [{"fact": "need", "index": 0}, {"fact": "root"}], "conclusion": [], "pivot": ""}]
         files = [[publish("a", "1.0.0", ["b ^2"]), publish("b", "1.0.0"), json.dumps(request), checking(request, rows)],
-                 [publish("c", "1.0.0"), json.dumps(request), yank("c", "1.0.0"), checking(request, rows), json.dumps(request)],
-                 [json.dumps(request), publish("b", "2.0.0"), unyank("b", "2.0.0"), json.dumps(request), checking(request, rows)]]
+                 [publish("c", "1.0.0"), json.dumps(request), yank("c", "1.0.0"), checking(request, rows),
+                  json.dumps(request)],
+                 [json.dumps(request), publish("b", "2.0.0"), unyank("b", "2.0.0"), json.dumps(request),
+                  checking(request, rows)]]
         for _ in range(20):
             done = run(["race", *(self.file(str(number), lines) for number, lines in enumerate(files))])
             self.assertEqual((done.returncode, done.stderr), (0, b""))
@@ -198,7 +213,8 @@ class Files(unittest.TestCase):
             journal = self.file("journal", printed[sum(map(len, files)):])
             for number, lines in enumerate(files):
                 replies, printed = printed[:len(lines)], printed[len(lines):]
-                status, said, _ = called(check_derivation, "--journal", journal, self.file("asked", lines), self.file("told", replies))
+                status, said, _ = called(check_derivation, "--journal", journal, self.file("asked", lines),
+                                         self.file("told", replies))
                 explained = [it for it in map(json.loads, replies) if "derivation" in it]
                 self.assertEqual((status, said.count(" follows\n")), (0, len(explained)), said)
                 for line, reply in zip(lines, map(json.loads, replies)):
@@ -212,7 +228,3 @@ class Files(unittest.TestCase):
 def printed_journal(path):
     with open(path, encoding="utf-8") as lines:
         return lines.read().splitlines()[1:-1]
-
-
-if __name__ == "__main__":
-    unittest.main()

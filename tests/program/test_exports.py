@@ -1,5 +1,5 @@
-"""The exports of the static library, called as a caller in C does, over a heap that counts and can refuse a request: what each answers and
-leaves, and that nothing is kept of a session that was closed."""
+"""The exports of the static library, called as a caller in C does, over a heap that counts and can refuse a request:
+what each answers and leaves, and that nothing is kept of a session that was closed."""
 import ctypes
 import json
 import os
@@ -14,7 +14,7 @@ from tests.support.program import TOP, skip_without
 
 pytestmark = pytest.mark.not_quick("the static library")
 HEAP = os.path.join(TOP, "tests", "support", "c", "heap_counted.c")
-OK, MISUSE, MEMORY, JOURNAL, BROKEN = range(5)
+OK, MISUSE, MEMORY, JOURNAL, BROKEN, FULL = range(6)
 # Requests beyond these are not refused: no scenario has as many.
 MOST_REQUESTS = 2000
 HEAD = b"registry-journal 2\n"
@@ -23,11 +23,6 @@ PUBLISH = b'{"op":"publish","name":"a","version":"1.0.0","needs":[]}\n'
 ACCEPTED = b'{"ok":true,"revision":1}\n'
 LIST = b'{"op":"list"}\n'
 LISTED = b'{"packages":[["a",[["1.0.0",false]]]],"revision":1}\n'
-# x 1 and 2, w 1, and w 2, which needs x 1: the newest selection has w 2 and x 1
-CHOICE = [b'{"op":"publish","name":"x","version":"1.0.0","needs":[]}', b'{"op":"publish","name":"x","version":"2.0.0","needs":[]}',
-          b'{"op":"publish","name":"w","version":"1.0.0","needs":[]}', b'{"op":"publish","name":"w","version":"2.0.0","needs":[["x","=1.0.0"]]}']
-CHOOSE = b'{"op":"resolve","needs":[["x","*"],["w","*"]]}\n'
-NEWEST = b'{"revision":4,"selected":[["w","2.0.0"],["x","1.0.0"]]}\n'
 NO_MEMORY = b'{"error":18,"name":"NoMemory","revision":%d}\n'
 
 
@@ -58,7 +53,8 @@ class Held:
     def given(self, name, text, *numbers):
         """A call that is given a text, and then tells numbers."""
         places = [ctypes.c_size_t(number) for number in numbers]
-        status = self.call(name, ctypes.create_string_buffer(text, len(text) or 1), ctypes.c_size_t(len(text)), *map(ctypes.byref, places))
+        status = self.call(name, ctypes.create_string_buffer(text, len(text) or 1), ctypes.c_size_t(len(text)),
+                           *map(ctypes.byref, places))
         return (status, *(place.value for place in places)) if numbers else status
 
     def count(self, name):
@@ -82,8 +78,44 @@ def commands_in(lines):
     return b"".join(text.encode() + b"\n" for text in texts)
 
 
+class Seats:
+    """Slots of seats, and the calls for them."""
+
+    def __init__(self, library):
+        self.library, self.slots = library, (Slot * 65)()
+
+    def call(self, name, *words):
+        function = getattr(self.library, f"registryd_{name}")
+        function.restype = ctypes.c_uint32
+        return function(*words)
+
+    def open(self, count, capacity=8):
+        return self.call("seats_open", self.slots, ctypes.c_size_t(count), ctypes.c_size_t(capacity))
+
+    def load(self, text, count=2, capacity=8):
+        """The status, and the line at fault."""
+        line = ctypes.c_size_t(5)
+        given = ctypes.create_string_buffer(text, len(text) or 1), ctypes.c_size_t(len(text)), ctypes.byref(line)
+        status = self.call("seats_load", self.slots, ctypes.c_size_t(count), *given, ctypes.c_size_t(capacity))
+        return status, line.value
+
+    def text(self, name, seat, line=None, size=10_000):
+        """A call that gives a text, for a seat, which are counted from 0: the status, how long it is, and what stands
+        in the room."""
+        room, length = ctypes.create_string_buffer(b"-" * size, size + 1), ctypes.c_size_t(77)
+        given = [] if line is None else [ctypes.create_string_buffer(line, len(line) or 1), ctypes.c_size_t(len(line))]
+        slot = ctypes.byref(self.slots[seat])
+        status = self.call(f"seat_{name}", slot, *given, room, ctypes.c_size_t(size), ctypes.byref(length))
+        return status, length.value, room.raw[:size].rstrip(b"-")
+
+    def close(self, seat):
+        return self.call("seat_close", ctypes.byref(self.slots[seat]))
+
+
 @skip_without("cc", "gcc")
-class Exports(unittest.TestCase):
+class OverHeap(unittest.TestCase):
+    """Calls over a heap that counts: whatever was asked for is given back at the end."""
+
     @classmethod
     def setUpClass(cls):
         folder = tempfile.TemporaryDirectory()
@@ -95,8 +127,21 @@ class Exports(unittest.TestCase):
 
     def setUp(self):
         self.number("refused").value = 0
-        self.held = Held(self.library)
         self.addCleanup(lambda: self.assertEqual(self.number("blocks", ctypes.c_long).value, 0))
+
+    def refuse_each(self, scenario):
+        """Runs a scenario with each request for memory refused in turn, until it has no more."""
+        for refused in range(1, MOST_REQUESTS):
+            self.number("requests").value, self.number("refused").value = 0, refused
+            if scenario() == "all" and self.number("requests").value < refused:
+                return refused
+        return self.fail("there was no end of requests")
+
+
+class Exports(OverHeap):
+    def setUp(self):
+        super().setUp()
+        self.held = Held(self.library)
         self.addCleanup(lambda: self.held.call("close"))
 
     def test_a_slot_that_holds_none(self):
@@ -107,60 +152,17 @@ class Exports(unittest.TestCase):
             self.assertEqual((held.count("waiting"), held.count("unsaved"), held.take()), (0, 0, b""))
             self.assertEqual((held.call("open"), held.call("close")), (OK, OK))
 
-    def test_a_slot_that_holds_one_opens_no_other(self):
-        held = self.held
-        self.assertEqual((held.call("open"), held.given("feed", PUBLISH)), (OK, OK))
-        self.assertEqual((held.call("open"), held.given("load", HEAD, 5), held.given("recover", b"", 5, 6)),
-                         (MISUSE, (MISUSE, 5), (MISUSE, 5, 6)))
-        self.assertEqual(held.take(), ACCEPTED)
-
-    def test_a_session_answers_with_the_newest_selection(self):
-        held, commands = self.held, b"".join(line + b"\n" for line in CHOICE)
-        for name, text in (("open", None), ("load", HEAD + commands_in(CHOICE) + b"end 4\n"), ("recover", HEAD + commands_in(CHOICE))):
-            with self.subTest(name=name):
-                opened = held.call("open") if text is None else held.given(name, text, *[5] * (1 + (name == "recover")))
-                self.assertEqual(opened if text is None else opened[0], OK)
-                if text is None:
-                    self.assertEqual((held.given("feed", commands), len(held.take().splitlines())), (OK, 4))
-                self.assertEqual((held.given("feed", CHOOSE), held.take(), held.call("close")), (OK, NEWEST, OK))
-
-    def test_replies_are_taken_in_pieces(self):
-        held = self.held
-        held.call("open")
-        for piece in (PUBLISH[:9], PUBLISH[9:] + LIST[:4], LIST[4:]):
-            self.assertEqual(held.given("feed", piece), OK)
-        self.assertEqual(held.count("waiting"), len(ACCEPTED + LISTED))
-        self.assertEqual(held.take(0), b"")
-        self.assertEqual((held.take(7), held.count("waiting"), held.take()), (ACCEPTED[:7], len(ACCEPTED[7:] + LISTED), ACCEPTED[7:] + LISTED))
-
-    def test_a_text_goes_to_a_room_that_has_place_for_it(self):
-        held, whole = self.held, HEAD + PUBLISHED + b"end 1\n"
-        self.assertEqual(held.given("load", whole, 5), (OK, 5))
-        for size, left in ((0, b""), (len(whole) - 1, b""), (len(whole), whole), (len(whole) + 3, whole)):
-            self.assertEqual(held.text("journal", size), (OK, len(whole), left))
-        self.assertEqual((held.given("feed", LIST), held.take()), (OK, LISTED))
-
-    def test_a_journal_at_fault(self):
-        self.assertEqual(self.held.given("load", HEAD + PUBLISHED * 2 + b"end 2\n", 5), (JOURNAL, 3))
-        self.assertEqual(self.held.given("load", HEAD, 5), (JOURNAL, 2))
-        self.assertEqual(self.held.given("recover", HEAD + PUBLISHED * 2, 5, 6), (JOURNAL, 5, 3))
-        self.assertEqual(self.held.given("recover", b"registry-journal 3\n", 5, 6), (JOURNAL, 5, 1))
-
-    def test_how_much_of_a_file_is_kept(self):
-        for text, kept in ((b"", 0), (HEAD[:7], 0), (HEAD, len(HEAD)), (HEAD + PUBLISHED[:9], len(HEAD)), (HEAD + PUBLISHED, len(HEAD + PUBLISHED)),
-                           (HEAD + PUBLISHED + b"end 1\n", len(HEAD + PUBLISHED))):
-            self.assertEqual(self.held.given("recover", text, 5, 6), (OK, kept, 6), text)
-            self.assertEqual((self.held.count("unsaved"), self.held.call("close")), (0, OK))
-
     def test_a_reply_waits_until_its_line_is_safe(self):
         held = self.held
         held.given("recover", HEAD, 5, 6)
         held.given("feed", PUBLISH)
-        self.assertEqual((held.count("waiting"), held.take(), held.count("unsaved"), held.text("end")), (0, b"", 1, (MISUSE, 77, b"")))
+        self.assertEqual((held.count("waiting"), held.take(), held.count("unsaved"), held.text("end")),
+                         (0, b"", 1, (MISUSE, 77, b"")))
         # no room: nothing is given, so nothing becomes safe
         self.assertEqual((held.text("append", len(PUBLISHED) - 1), held.call("appended"), held.count("unsaved")),
                          ((OK, len(PUBLISHED), b""), OK, 1))
-        self.assertEqual((held.text("append", len(PUBLISHED)), held.count("waiting")), ((OK, len(PUBLISHED), PUBLISHED), 0))
+        self.assertEqual((held.text("append", len(PUBLISHED)), held.count("waiting")),
+                         ((OK, len(PUBLISHED), PUBLISHED), 0))
         # what is accepted meanwhile was not given
         held.given("feed", PUBLISH.replace(b"1.0.0", b"2.0.0"))
         self.assertEqual((held.call("appended"), held.count("unsaved"), held.take()), (OK, 1, b""))
@@ -170,12 +172,7 @@ class Exports(unittest.TestCase):
 
     def test_each_request_for_memory_is_refused(self):
         told = {"none": 0, "short": 0, "broken": 0, "text": 0}
-        for refused in range(1, MOST_REQUESTS):
-            self.number("requests").value, self.number("refused").value = 0, refused
-            if self.scenario(told) == "all" and self.number("requests").value < refused:
-                break
-        else:
-            self.fail("there was no end of requests")
+        refused = self.refuse_each(lambda: self.scenario(told))
         self.assertTrue(all(told.values()), told)
         print(f"({refused} requests: {told}) ", end="")
 
@@ -185,7 +182,8 @@ class Exports(unittest.TestCase):
         try:
             status, line = held.given("load", whole, 5)
             if status:
-                self.assertEqual((status, line, held.count("waiting"), held.given("feed", LIST)), (MEMORY, 5, 0, MISUSE))
+                self.assertEqual((status, line, held.count("waiting"), held.given("feed", LIST)),
+                                 (MEMORY, 5, 0, MISUSE))
                 told["none"] += 1
                 return "none"
             status, reply = held.given("feed", LIST), held.take()
@@ -209,5 +207,99 @@ class Exports(unittest.TestCase):
             self.assertEqual(self.number("blocks", ctypes.c_long).value, 0)
 
 
-if __name__ == "__main__":
-    unittest.main()
+class SeatExports(OverHeap):
+    ACCEPTED = b'{"ok":true,"place":2,"revision":2,"seat":%d}\n'
+    LISTED = b'{"packages":[["a",[["1.0.0",false],["2.0.0",false]]]],"place":2,"revision":2,"seat":%d}\n'
+    SECOND = PUBLISH.replace(b"1.0.0", b"2.0.0")
+    WHOLE = HEAD + PUBLISHED + b"end 1\n"
+
+    def setUp(self):
+        super().setUp()
+        self.seats = Seats(self.library)
+        self.addCleanup(lambda: [self.seats.close(seat) for seat in range(65)])
+
+    def given(self, text):
+        return OK, len(text), text
+
+    def test_slots_that_hold_none(self):
+        seats = self.seats
+        for _ in range(2):
+            given = [seats.text("ask", 0, LIST), seats.text("reply", 0), seats.text("journal", 0)]
+            self.assertEqual(given, [(MISUSE, 77, b"")] * 3)
+            self.assertEqual((seats.close(0), seats.open(2), seats.close(1), seats.close(0)), (MISUSE, OK, OK, OK))
+
+    def test_what_can_not_be_opened(self):
+        seats = self.seats
+        for count, capacity in ((0, 8), (65, 8), (1, 0), (1, 65_537)):
+            loaded = seats.load(self.WHOLE, count, capacity)
+            self.assertEqual((seats.open(count, capacity), loaded), (MISUSE, (MISUSE, 5)))
+        self.assertEqual((seats.open(64, 65_536), seats.open(64)), (OK, MISUSE))
+        self.assertEqual(seats.load(self.WHOLE, 64), (MISUSE, 5))
+        # one that holds a seat is enough
+        self.assertEqual([seats.close(seat) for seat in range(63)], [OK] * 63)
+        self.assertEqual((seats.open(64), seats.open(63, 1)), (MISUSE, OK))
+
+    def test_a_reply_is_kept_and_a_command_done_once(self):
+        seats, reply = self.seats, b'{"ok":true,"place":1,"revision":1,"seat":1}\n'
+        self.assertEqual((seats.open(2), seats.text("reply", 0)), (OK, self.given(b"")))
+        for size, left in ((0, b""), (len(reply) - 1, b""), (len(reply), reply)):
+            given = seats.text("reply", 0, size=size) if size else seats.text("ask", 0, PUBLISH, size)
+            self.assertEqual(given, (OK, len(reply), left))
+        self.assertEqual(seats.text("journal", 1), self.given(self.WHOLE))
+        self.assertEqual(seats.text("journal", 0, size=5), (OK, len(self.WHOLE), b""))
+        self.assertEqual(seats.text("reply", 0), self.given(reply))
+
+    def test_a_journal_at_fault_and_one_that_is_too_long(self):
+        seats = self.seats
+        self.assertEqual(seats.load(HEAD + PUBLISHED * 2 + b"end 2\n"), (JOURNAL, 3))
+        self.assertEqual(seats.load(HEAD), (JOURNAL, 2))
+        both = HEAD + PUBLISHED + PUBLISHED.replace(b"1.0.0", b"2.0.0") + b"end 2\n"
+        self.assertEqual((seats.load(both, 1, 1), seats.load(both, 1, 2)), ((FULL, 5), (OK, 5)))
+        self.assertEqual(seats.text("journal", 0), self.given(both))
+
+    def test_each_request_for_memory_is_refused(self):
+        told = {"none": 0, "short": 0, "owed": 0, "text": 0}
+        refused = self.refuse_each(lambda: self.scenario(told))
+        self.assertTrue(all(told.values()), told)
+        print(f"({refused} requests: {told}) ", end="")
+
+    def answered(self, seat, line, reply, told):
+        """A line is answered by this reply, or by error 18 in its place; where there was no memory for that, it is
+        there the next time."""
+        status, length, text = self.seats.text("ask", seat, line)
+        if status:
+            self.assertEqual((status, length, text), (MEMORY, 77, b""))
+            told["owed"] += 1
+            status, length, text = self.seats.text("reply", seat)
+        self.assertEqual((status, length), (OK, len(text)))
+        if text == reply:
+            return True
+        short = b'{"error":18,"name":"NoMemory","place":%d,"revision":%d,"seat":%d}\n'
+        self.assertIn(text, [short % (place, place, seat + 1) for place in range(3)])
+        told["short"] += 1
+        return False
+
+    def scenario(self, told):
+        """Two seats over a journal publish, list and give it back; answers how that ended."""
+        seats = self.seats
+        try:
+            status, line = seats.load(self.WHOLE)
+            if status:
+                self.assertEqual((status, line, seats.close(0), seats.close(1)), (MEMORY, 5, MISUSE, MISUSE))
+                told["none"] += 1
+                return "none"
+            if not self.answered(1, self.SECOND, self.ACCEPTED % 2, told):
+                self.assertTrue(self.answered(1, self.SECOND, self.ACCEPTED % 2, told))
+            self.answered(0, LIST, self.LISTED % 1, told)
+            whole = HEAD + PUBLISHED + PUBLISHED.replace(b"1.0.0", b"2.0.0") + b"end 2\n"
+            given = seats.text("journal", 0)
+            if given[0]:
+                self.assertEqual(given, (MEMORY, 77, b""))
+                told["text"] += 1
+                given = seats.text("journal", 0)
+            self.assertEqual(given, self.given(whole))
+            return "all"
+        finally:
+            seats.close(0)
+            seats.close(1)
+            self.assertEqual(self.number("blocks", ctypes.c_long).value, 0)

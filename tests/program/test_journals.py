@@ -21,7 +21,8 @@ REQUIREMENTS = ["^1.0.0", "*", ">=1.0.0, <2.0.0"]
 
 
 def premise(name, target, within):
-    return {"fact": "premise", "name": name, "need": "^1.0.0", "target": target, "versions": [0], "within": list(within)}
+    return {"fact": "premise", "name": name, "need": "^1.0.0", "target": target, "versions": [0],
+            "within": list(within)}
 
 
 def learn(*within):
@@ -34,7 +35,8 @@ def learn(*within):
 def journal(lines, form=2, end=None):
     """The text of a journal's file with these lines."""
     lines = [line if line.startswith('{"derivation"') else journal_line(line) for line in lines]
-    return "".join(f"{line}\n" for line in [f"registry-journal {form}", *lines, f"end {len(lines) if end is None else end}"]).encode()
+    return "".join(f"{line}\n" for line in [f"registry-journal {form}", *lines,
+                                            f"end {len(lines) if end is None else end}"]).encode()
 
 
 def speaking_of(name, learnt):
@@ -42,16 +44,20 @@ def speaking_of(name, learnt):
     return [line for line in learnt if f'"name":"{name}"' in line]
 
 
-# How many packages the versions of p need beside z, in which each of these packages is in the way of one version. That p can't be had rests
-# on two facts of each, what p and what that version of z need of it, and on p's need for z; with the need of a request these are two facts
-# for each and two more. Each step joins two of what stands there, so it takes one step less than there are facts, at the least.
+# How many packages the versions of p need beside z, in which each of these packages is in the way of one version. That
+# p can't be had rests
+# on two facts of each, what p and what that version of z need of it, and on p's need for z; with the need of a request
+# these are two facts
+# for each and two more. Each step joins two of what stands there, so it takes one step less than there are facts, at
+# the least.
 ROWS = (TEACHING - 1) // 2
 FEW = 64  # versions of p, of which a line tells that can be written
 CHAIN_LEARNT = journal([*CHAIN, learn(0)])
 
 
 def between_batches(lines, cut):
-    """The first place from this one on that is not between two lines that ask to resolve, which are answered together."""
+    """The first place from this one on that is not between two lines that ask to resolve, which are answered
+    together."""
     while 0 < cut < len(lines) and all(json.loads(line)["op"] == "resolve" for line in lines[cut - 1:cut + 1]):
         cut += 1
     return cut
@@ -87,7 +93,8 @@ class Sessions(unittest.TestCase):
         return self.session(lines, self.loaded, save)
 
     def fault(self, text, line, **more):
-        """A session with a journal of this text ends at once, at a line of it; nothing is written, and nothing saved."""
+        """A session with a journal of this text ends at once, at a line of it; nothing is written, and nothing
+        saved."""
         self.write(self.loaded, text)
         self.write(self.saved, b"as it was")
         done = run(self.words(self.loaded, self.saved), **more)
@@ -106,7 +113,8 @@ class Saving(Sessions):
             self.session(lines, save=self.saved)
             self.assertEqual(self.read(self.saved), journal(left))
             self.assertEqual(self.beside(), ["saved"])
-        self.assertEqual(self.read(self.saved), b'registry-journal 2\n{"name":"a","needs":[],"op":"publish","version":"1.0.0"}\nend 1\n')
+        self.assertEqual(self.read(self.saved), b'registry-journal 2\n'
+                                                b'{"name":"a","needs":[],"op":"publish","version":"1.0.0"}\nend 1\n')
 
     def test_what_is_refused_is_not_saved(self):
         lines = [publish("a", "1.0.0", ["b ^1.0.0"]), publish("a", "1.0.0+x"), yank("a", "1.0.0"), yank("a", "1.0.0"),
@@ -120,7 +128,8 @@ class Saving(Sessions):
         lines = self.read(self.saved).decode().split("\n")
         learnt = [line for line in lines if line.startswith('{"derivation":')]
         self.assertGreater(len(learnt), 0)
-        self.assertEqual(lines, ["registry-journal 2", *map(journal_line, CONFLICT), *learnt, journal_line(publish("z", "1.0.0")),
+        self.assertEqual(lines, ["registry-journal 2", *map(journal_line, CONFLICT), *learnt,
+                                 journal_line(publish("z", "1.0.0")),
                                  f"end {4 + len(learnt)}", ""])
 
     def test_nothing_is_saved_where_a_session_ends_otherwise(self):
@@ -143,9 +152,11 @@ class Saving(Sessions):
             self.write(self.saved, b"as it was")
             done = run(self.words(None, self.saved), lines, most=most)
             fails = most < len(whole)
-            self.assertEqual((done.returncode, done.stderr), (1, b"registryd: output failed\n") if fails else (0, b""), most)
+            self.assertEqual((done.returncode, done.stderr), (1, b"registryd: output failed\n") if fails else (0, b""),
+                             most)
             # all replies are written before
-            self.assertEqual(done.stdout, b'{"ok":true,"revision":1}\n{"packages":[["a",[["1.0.0",false]]]],"revision":1}\n')
+            self.assertEqual(done.stdout, b'{"ok":true,"revision":1}\n'
+                                          b'{"packages":[["a",[["1.0.0",false]]]],"revision":1}\n')
             self.assertEqual(self.read(self.saved), b"as it was" if fails else whole)
             self.assertEqual(self.beside(), ["saved"])
 
@@ -160,7 +171,8 @@ class Saving(Sessions):
 
     def test_a_device_that_takes_nothing(self):
         done = run(self.words(None, "/dev/full"), LIST.encode())
-        self.assertEqual((done.returncode, done.stdout, done.stderr), (1, b'{"packages":[],"revision":0}\n', b"registryd: output failed\n"))
+        self.assertEqual((done.returncode, done.stdout, done.stderr),
+                         (1, b'{"packages":[],"revision":0}\n', b"registryd: output failed\n"))
 
     def test_a_device_is_written_itself(self):
         self.session(CHAIN, save="/dev/null")
@@ -231,19 +243,24 @@ class Loading(Sessions):
         newer, other = publish("bar", "1.1.0", ["foo ^1.0.0"]), publish("z", "1.0.0", ["bar ^2.0.0"])
         for behind, is_known in (([], True), ([other], True), ([newer], False), ([newer, other], False)):
             text, revision = journal([*CONFLICT, learnt, *behind]), 3 + len(behind)
-            found, spent = ('{"revision":%d,"selected":[["foo","1.0.0"]]}' % revision, '{"error":22,"name":"BudgetSpent","revision":%d}' % revision)
+            found, spent = ('{"revision":%d,"selected":[["foo","1.0.0"]]}' % revision,
+                            '{"error":22,"name":"BudgetSpent","revision":%d}' % revision)
             self.assertEqual(self.load(text, [request, more]), [found if is_known else spent, found])
             self.write(self.saved, text)
-            self.assertEqual(run([*SERVE, "--journal", self.saved], f"{request}\n".encode()).stdout.decode(), (found if is_known else spent) + "\n")
+            self.assertEqual(run([*SERVE, "--journal", self.saved], f"{request}\n".encode()).stdout.decode(),
+                             (found if is_known else spent) + "\n")
 
     def test_a_journal_at_fault(self):
         a = publish("a", "1.0.0")
         for form in (1, 2):
             text = journal([a], form)
             head, line, end = text.splitlines(True)
-            for bad, at in ((head + line, 3), (head + line + b"end 2\n", 3), (text[:-1], 3), (text + b"x", 4), (text + b"\n", 4),
-                            (head + line + line + end, 3), (head + line + b"end 01\n", 3), (b"", 1), (head[:-1] + b"\r\n" + line + end, 1),
-                            (head + b'{"op":"publish","name":"a","needs":[],"version":"1.0.0"}\n' + end, 2), (head + b"\n" + line + end, 2),
+            for bad, at in ((head + line, 3), (head + line + b"end 2\n", 3), (text[:-1], 3), (text + b"x", 4),
+                            (text + b"\n", 4),
+                            (head + line + line + end, 3), (head + line + b"end 01\n", 3), (b"", 1),
+                            (head[:-1] + b"\r\n" + line + end, 1),
+                            (head + b'{"op":"publish","name":"a","needs":[],"version":"1.0.0"}\n' + end, 2),
+                            (head + b"\n" + line + end, 2),
                             (head + line[:-1] + b" \n" + end, 2), (line + end, 1), (head + head + line + end, 2)):
                 self.fault(bad, at, given=LIST.encode())
 
@@ -256,7 +273,8 @@ class Loading(Sessions):
     def test_what_was_learnt_is_judged_at_its_place(self):
         newer = publish("c", "1.1.0")
         wrong = learn(0).replace('["c",false,[0]]', '["c",false,[1]]')
-        for lines, end, at in (([*CHAIN, wrong], 4, 5), ([CHAIN[0], learn(0), *CHAIN[1:]], 4, 3), ([*CHAIN, learn(0), learn(0)], 5, 6),
+        for lines, end, at in (([*CHAIN, wrong], 4, 5), ([CHAIN[0], learn(0), *CHAIN[1:]], 4, 3),
+                               ([*CHAIN, learn(0), learn(0)], 5, 6),
                                ([*CHAIN, newer, learn(0)], 5, 6), ([*CHAIN, learn(0)], 3, 6)):
             self.fault(journal(lines, end=end), at)
         self.fault(journal([*CHAIN, learn(0)], form=1), 5)
@@ -326,8 +344,10 @@ class Limits(Sessions):
 
     def test_what_was_learnt_by_too_long_a_line_is_left_out(self):
         (few, _), (many, then) = (self.learnt_of(versions) for versions in (FEW, MOST_VERSIONS))
-        # Each fact of p lists all versions of p, and so does what the step concludes that uses it. There are ROWS + 1 of these facts, and a
-        # step uses two at most. Where p has as many versions as it may have, these lists alone are more than a line of a journal holds.
+        # Each fact of p lists all versions of p, and so does what the step concludes that uses it. There are ROWS + 1
+        # of these facts, and a
+        # step uses two at most. Where p has as many versions as it may have, these lists alone are more than a line of
+        # a journal holds.
         short, long = (",".join(map(str, range(versions))) for versions in (FEW, MOST_VERSIONS))
         self.assertGreater((ROWS + 1) * 3 // 2 * len(long), MOST_LINE_BYTES)
         # Where it has few, three such lists for each step are less.
@@ -339,23 +359,28 @@ class Limits(Sessions):
         # what was learnt before it stays
         self.assertNotEqual(speaking_of("foo", many), [])
         self.assertEqual(speaking_of("foo", many), speaking_of("foo", few))
-        # The session knows what it does not write, and the next one doesn't. What a version needs is looked at when it is decided, and s has
+        # The session knows what it does not write, and the next one doesn't. What a version needs is looked at when it
+        # is decided, and s has
         # two: so the first conflict ends the search only where it is known that p can't be had, which both need.
         self.assertEqual(then, '{"refused":true,"revision":%d}' % (len(CONFLICT) + ROWS * 3 + MOST_VERSIONS + 2))
         self.assertIn("BudgetSpent", *self.session([resolve("s *", budget=1)], self.saved))
 
     def learnt_of(self, versions):
-        """The learn lines that a session leaves that first resolves foo, and in which no version of p can be had, since each needs z and all
-        of some packages, of which each is in the way of one version of z; and what is answered then of s, whose versions need p, under a
-        budget of one conflict."""
+        """The learn lines that a session leaves that first resolves foo, and in which no version of p can be had, since
+        each needs z and all of some packages, of which each is in the way of one version of z; and what is answered
+        then of s, whose versions need p, under a budget of one conflict."""
         lines = [line for number in range(ROWS) for line in (
-            publish(f"c{number}", "1.0.0"), publish(f"c{number}", "2.0.0"), publish("z", f"1.{number}.0", [f"c{number} ^2"]))]
-        lines += [publish("p", f"1.{number}.0", ["z *", *(f"c{row} ^1" for row in range(ROWS))]) for number in range(versions)]
+            publish(f"c{number}", "1.0.0"), publish(f"c{number}", "2.0.0"),
+            publish("z", f"1.{number}.0", [f"c{number} ^2"]))]
+        lines += [publish("p", f"1.{number}.0", ["z *", *(f"c{row} ^1" for row in range(ROWS))])
+                  for number in range(versions)]
         lines += [publish("s", "1.0.0", ["p *"]), publish("s", "2.0.0", ["p *"]), *CONFLICT]
-        told = self.session([*lines, resolve("foo >=1.0.0"), resolve("p *"), LIST, resolve("s *", budget=1)], save=self.saved)
+        told = self.session([*lines, resolve("foo >=1.0.0"), resolve("p *"), LIST, resolve("s *", budget=1)],
+                            save=self.saved)
         text = self.read(self.saved).decode().split("\n")
         learnt = [line for line in text if line.startswith('{"derivation"')]
-        self.assertEqual((text[:len(lines) + 1], text[-2]), (["registry-journal 2", *map(journal_line, lines)], f"end {len(lines) + len(learnt)}"))
+        self.assertEqual((text[:len(lines) + 1], text[-2]), (["registry-journal 2", *map(journal_line, lines)],
+                                                             f"end {len(lines) + len(learnt)}"))
         return learnt, told[-1]
 
     def test_the_versions_of_a_package(self):
@@ -394,13 +419,10 @@ def damaged(rng, lines):
     elif kind == 3:
         line = lines[at]
         byte = rng.randrange(len(line))
-        lines[at] = line[:byte] + rng.choice([b"", b" ", b"\n", b"0", b"1", b"a", b'"', b"\\u0061"]) + line[byte + rng.randrange(2):]
+        lines[at] = line[:byte] + rng.choice([b"", b" ", b"\n", b"0", b"1", b"a", b'"',
+                                              b"\\u0061"]) + line[byte + rng.randrange(2):]
     elif kind == 4:
         lines[-1] = b"end %d\n" % rng.randrange(9)
     else:
         lines[at] = lines[at].replace(b"1.", b"2.", 1)
     return b"".join(lines)
-
-
-if __name__ == "__main__":
-    unittest.main()

@@ -1,5 +1,5 @@
-"""The tables of lines under `rows/` and those that are made here: each is a session or a race, whose replies are exactly
-those that stand in it. `tables.py` says how a table is written."""
+"""The tables of lines under `rows/` and those that are made here: each is a session or a race, whose replies are
+exactly those that stand in it. `tables.py` says how a table is written."""
 import os
 import tempfile
 import unittest
@@ -62,7 +62,8 @@ class Tables(unittest.TestCase):
         print(f"({count} tables, {lines} lines) ", end="")
 
     def test_a_file_that_is_no_table_is_told(self):
-        for text, place in (("# t\n> {}\n", 2), ("> {}\n", 1), ("# t\n< x\n", 2), ("# t\n> {}\n~ [] as {}\n< x\n", 3), ("# t\n> {}\n~ {}\n< x\n", 3),
+        for text, place in (("# t\n> {}\n", 2), ("> {}\n", 1), ("# t\n< x\n", 2), ("# t\n> {}\n~ [] as {}\n< x\n", 3),
+                            ("# t\n> {}\n~ {}\n< x\n", 3),
                             ("# t\n> {} \n< x\n", 2), ("# t\n\n# u\n> a\n< b\n", 3), ("# t\n? a\n", 2)):
             with tempfile.NamedTemporaryFile("w") as out:
                 out.write(text)
@@ -80,7 +81,3 @@ class Tables(unittest.TestCase):
             table.rows = [(b'{"op":"list"}', '{"packages":[],"revision":0}', "here:1")] * 2
             with self.assertRaises(AssertionError):
                 self.compare(table, run(SERVE, b'{"op":"list"}\n' * (2 + more)), table.replies())
-
-
-if __name__ == "__main__":
-    unittest.main()

@@ -9,17 +9,17 @@ import unittest
 
 from tests.support.processes import used_by_thread
 from tests.support.program import PATIENCE, publish, read_lines, resolve, talking
+from tests.support.registry_folder import pigeons
 
 # By so many workers, of a session that keeps a journal and of one that keeps none.
-SESSIONS = list(itertools.product(("1", "2", "7"), (False, True)))
+KINDS = ("1", "2", "7"), (False, True)
+SESSIONS = list(itertools.product(*KINDS))
 
-# Each of these pigeons has a hole of its own in each version; there is one hole too few. What is learnt of one way to place
-# them says little of the others, so that no search ends in the time of a test.
-PIGEONS, HOLES = 13, 12
-PLACES = [*(publish(f"hole{hole}", f"{pigeon}.0.0") for hole in range(HOLES) for pigeon in range(1, PIGEONS + 1)),
-          *(publish(f"pigeon{pigeon}", f"1.{hole}.0", [f"hole{hole} ={pigeon}.0.0"]) for pigeon in range(1, PIGEONS + 1) for hole in range(HOLES))]
-LONG = [f"pigeon{pigeon} *" for pigeon in range(1, PIGEONS + 1)]
-SHORT, ANSWER = resolve("hole0 *"), '"selected":[["hole0","%d.0.0"]]' % PIGEONS
+# One hole too few. What is learnt of one way to place the pigeons says little of the others, so that no search ends in
+# the time of a test.
+PLACES, BIRDS = pigeons(13)
+LONG = [f"{bird} *" for bird in BIRDS]
+SHORT, ANSWER = resolve("hole-0 *"), '"selected":[["hole-0","12.0.0"]]'
 # so many conflicts are met in a tenth of a second or some
 BUDGET = 1000
 PAUSE = 0.2
@@ -55,11 +55,12 @@ def session(workers, keeps):
 
 class LongSearches(unittest.TestCase):
     def test_replies_before_a_search_without_an_end(self):
-        for kind in SESSIONS:
-            with self.subTest(kind), session(*kind) as client:
-                said(client, [*[SHORT] * 60, resolve(*LONG), *[SHORT] * 60])
-                told = read_lines(client, 60).decode().splitlines()
-                self.assertEqual((len(told), sum(ANSWER in line for line in told)), (60, 60))
+        lines = [publish("more", "1.0.0"), *[SHORT] * 60]
+        for *kind, explain in itertools.product(*KINDS, (False, True)):
+            with self.subTest(kind, explain=explain), session(*kind) as client:
+                said(client, [*lines, resolve(*LONG, explain=explain), *lines])
+                told = read_lines(client, 61).decode().splitlines()
+                self.assertEqual((len(told), sum(ANSWER in line for line in told)), (61, 60))
                 self.assertTrue(is_silent(client))
 
     def test_replies_between_two_searches(self):
@@ -84,7 +85,7 @@ class LongSearches(unittest.TestCase):
     def test_as_many_searches_go_on_at_once_as_there_are_workers_or_requests(self):
         for workers, requests in ((1, 5), (2, 5), (3, 2), (4, 6)):
             with self.subTest(workers=workers, requests=requests), session(str(workers), False) as client:
-                said(client, [resolve(*LONG, f"hole{number} *") for number in range(requests)])
+                said(client, [resolve(*LONG, f"hole-{number} *") for number in range(requests)])
                 wanted, until = min(workers, requests), time.monotonic() + PATIENCE
                 # the first time what reads the lines may have used some, too
                 for _ in range(2):
@@ -94,7 +95,3 @@ class LongSearches(unittest.TestCase):
                 # one too many would have its time, too
                 time.sleep(PAUSE)
                 self.assertEqual(len(that_worked(client, before)), wanted)
-
-
-if __name__ == "__main__":
-    unittest.main()

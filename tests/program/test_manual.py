@@ -65,17 +65,21 @@ class OfTheProgram(unittest.TestCase):
         with open(os.path.join(TOP, "docs", "FORMATS.md"), encoding="utf-8") as text:
             rows = re.findall(r"^\| (\d) \|.*\| (nothing|`registryd: (.*)`) \|$", text.read(), re.M)
         parts = sections(page("registryd.1"), "Sh")
-        self.assertEqual(re.findall(r"^\.It (\d)$", parts["EXIT STATUS"], re.M), sorted({status for status, *_ in rows}))
-        told = [line.replace(" Ar ", " ") for line in re.findall(r"^\.It Li registryd: (.*)$", parts["DIAGNOSTICS"], re.M)]
+        self.assertEqual(re.findall(r"^\.It (\d)$", parts["EXIT STATUS"], re.M),
+                         sorted({status for status, *_ in rows}))
+        told = [line.replace(" Ar ", " ") for line in re.findall(r"^\.It Li registryd: (.*)$", parts["DIAGNOSTICS"],
+                                                                 re.M)]
         self.assertEqual(sorted(told), sorted({line for *_, line in rows if line}))
 
     def test_the_example_can_be_typed(self):
         first, _ = examples(page("registryd.1"))
         with tempfile.TemporaryDirectory() as folder:
             os.symlink(PROGRAM, os.path.join(folder, "registryd"))
-            done = subprocess.run(["sh", "-c", first], cwd=folder, env={**os.environ, "PATH": f"{folder}:{os.environ['PATH']}"},
+            done = subprocess.run(["sh", "-c", first], cwd=folder,
+                                  env={**os.environ, "PATH": f"{folder}:{os.environ['PATH']}"},
                                   stdout=subprocess.PIPE, text=True, check=True, timeout=60)
-        self.assertEqual(done.stdout.splitlines(), ['{"ok":true,"revision":1}', '{"revision":1,"selected":[["app","1.0.0"]]}'])
+        self.assertEqual(done.stdout.splitlines(),
+                         ['{"ok":true,"revision":1}', '{"revision":1,"selected":[["app","1.0.0"]]}'])
 
 
 class OfTheTools(unittest.TestCase):
@@ -101,7 +105,3 @@ class OfTheTools(unittest.TestCase):
             if name != "registryd-etcd":  # its synopsis has no room for them
                 told = options("".join(it for it in synopsis if it.split()[0] == name))
                 self.assertEqual(told, self.taken(file, commands), name)
-
-
-if __name__ == "__main__":
-    unittest.main()

@@ -1,5 +1,5 @@
-"""How much memory the program takes, and what it does where the system gives no more: a search that would take all of it ends, and
-what comes after it is answered as ever."""
+"""How much memory the program takes, and what it does where the system gives no more: a search that would take all of
+it ends, and what comes after it is answered as ever."""
 import fcntl
 import json
 import os
@@ -9,13 +9,16 @@ import subprocess
 import tempfile
 import time
 import unittest
+from pathlib import Path
 
+from tests.program.test_memory import commands_in
 from tests.program.test_race import ACCEPTED, JOURNAL, REPEATED
 from tests.support import plain_race
 from tests.support.program import LIST, PROGRAM, in_time, journal_line, publish, resolve, run
+from tests.support.registry_folder import pigeons
 
-PIGEONS = 13
-ALL = resolve(*(f"pigeon-{number} *" for number in range(PIGEONS)))
+HOLES, BIRDS = pigeons(13)
+ALL = resolve(*(f"{bird} *" for bird in BIRDS))
 # Kilobytes of all memory that a program may have, of what a race of two short files may be found to take, and of what
 # each file may add: two tables of 64, of names and of requirements that were read before.
 LIMIT, MOST_OF_A_RACE, MOST_OF_A_FILE = 16_000, 8_000, 128
@@ -27,17 +30,16 @@ LADDERS = (1_000, 32_000), (2_000, 64_000)
 
 
 def holes():
-    """Pigeons in one hole less: the version of a pigeon names a hole, of which one version lets one pigeon in. That they don't all
-    fit shows in a search that gets longer with each of them by far more than a factor."""
-    lines = [publish(f"hole-{hole}", f"{pigeon}.0.0") for hole in range(PIGEONS - 1) for pigeon in range(PIGEONS)]
-    return lines + [publish(f"pigeon-{pigeon}", f"{hole}.0.0", [f"hole-{hole} ={pigeon}.0.0"])
-                    for pigeon in range(PIGEONS) for hole in range(PIGEONS - 1)]
+    """The pigeons' publications: that they don't all fit shows in a search that takes all memory."""
+    return HOLES
 
 
 def ladder(rungs):
-    """A registry in which each rung is a decision, from which the version of its step follows, with that of the step before. So what
-    rules out a better version of a step depends on all decisions before. That `x` 2.0.0 can't be selected shows only in a search."""
-    yield from (publish("x", "1.0.0"), publish("x", "2.0.0", ["d *"]), publish("y", "1.0.0", ["c =2.0.0"]), publish("c", "1.0.0"), publish("c", "2.0.0"))
+    """A registry in which each rung is a decision, from which the version of its step follows, with that of the step
+    before. So what rules out a better version of a step depends on all decisions before. That `x` 2.0.0 can't be
+    selected shows only in a search."""
+    yield from (publish("x", "1.0.0"), publish("x", "2.0.0", ["d *"]), publish("y", "1.0.0", ["c =2.0.0"]),
+                publish("c", "1.0.0"), publish("c", "2.0.0"))
     yield from (publish("d", "1.0.0", ["c =1.0.0"]), publish("d", "2.0.0", ["c =1.0.0", "e *"]), publish("e", "1.0.0"))
     for rung in range(rungs):
         last = rung + 1 == rungs
@@ -54,32 +56,37 @@ def within(kilobytes):
     return lambda: resource.setrlimit(resource.RLIMIT_AS, (kilobytes * 1024, kilobytes * 1024))
 
 
+def served_within(kilobytes, lines, *words):
+    """The replies of a session that ends well in so much memory."""
+    done = run(["serve", *(words or ("--workers", "1"))], "".join(f"{line}\n" for line in lines).encode(),
+               preexec_fn=within(kilobytes))
+    assert (done.returncode, done.stderr) == (0, b"")
+    return done.stdout.decode().split("\n")[:-1]
+
+
 class Searches(unittest.TestCase):
     def asked(self):
         """Lines, and what each of those behind the publications is answered."""
-        lines = holes()
-        revision = len(lines)
+        revision = len(HOLES)
         short = f'{{"error":18,"name":"NoMemory","revision":{revision}}}'
-        return lines, [(ALL, short), (resolve("pigeon-0 *"), f'{{"revision":{revision},"selected":[["hole-11","0.0.0"],["pigeon-0","11.0.0"]]}}'),
-                       (ALL, short), (resolve("pigeon-0 ^99"), f'{{"refused":true,"revision":{revision}}}'), (ALL, short),
+        chosen = '"selected":[["hole-11","0.0.0"],["pigeon-0","11.0.0"]]'
+        return HOLES, [(ALL, short), (resolve("pigeon-0 *"), f'{{"revision":{revision},{chosen}}}'), (ALL, short),
+                       (resolve("pigeon-0 ^99"), f'{{"refused":true,"revision":{revision}}}'), (ALL, short),
                        (publish("more", "1.0.0"), f'{{"ok":true,"revision":{revision + 1}}}'),
                        (resolve("more *"), f'{{"revision":{revision + 1},"selected":[["more","1.0.0"]]}}')]
 
     def test_a_session_goes_on(self):
         published, asked = self.asked()
+        lines = [*published, *(line for line, _ in asked)]
         for workers in ("1", "4"):
             with tempfile.TemporaryDirectory() as folder:
                 saved = os.path.join(folder, "saved")
-                lines = [*published, *(line for line, _ in asked)]
-                done = run(["serve", "--workers", workers, "--save", saved], "".join(line + "\n" for line in lines).encode(),
-                           preexec_fn=within(LIMIT))
-                self.assertEqual((done.returncode, done.stderr), (0, b""))
-                replies = done.stdout.decode().split("\n")[:-1]
-                self.assertEqual(replies[:len(published)], [f'{{"ok":true,"revision":{number}}}' for number in range(1, len(published) + 1)])
-                self.assertEqual(replies[len(published):], [reply for _, reply in asked])
-                with open(saved, encoding="ascii") as file:
-                    kept = [line for line in file.read().split("\n")[1:-2] if not line.startswith('{"derivation"')]
-                self.assertEqual(kept, [journal_line(line) for line in [*published, publish("more", "1.0.0")]])
+                replies = served_within(LIMIT, lines, "--workers", workers, "--save", saved)
+                accepted = [f'{{"ok":true,"revision":{number}}}' for number in range(1, len(published) + 1)]
+                self.assertEqual(replies, [*accepted, *(reply for _, reply in asked)])
+                with open(saved, "rb") as file:
+                    self.assertEqual(commands_in(file.read()),
+                                     [journal_line(line) for line in [*published, publish("more", "1.0.0")]])
 
     def test_a_seat_goes_on(self):
         published, asked = self.asked()
@@ -89,32 +96,31 @@ class Searches(unittest.TestCase):
             file.flush()
             done = run(["race", file.name], preexec_fn=within(LIMIT))
         self.assertEqual((done.returncode, done.stderr), (0, b""))
-        replies = [json.loads(reply) for reply in done.stdout.decode().split("\n")[len(published):len(lines)]]
-        told = [json.loads(reply) for _, reply in asked]
-        for reply, wanted in zip(replies, told, strict=True):
-            # what was learnt on the way takes places
-            self.assertLessEqual(len(published), reply["place"])
-            self.assertEqual({**wanted, "place": reply["place"], "seat": 1}, reply)
+        told = plain_race.told_in([[line.encode() for line in lines]],
+                                  done.stdout.decode().split("\n"))[len(published):]
+        # what was learnt on the way takes places
+        self.assertEqual([it.reply for it in told],
+                         [json.dumps(json.loads(reply), separators=(",", ":")) for _, reply in asked])
+        self.assertTrue(all(it.place >= len(published) for it in told))
 
     def test_a_reply_that_would_take_all_memory(self):
-        # each version is ruled out by a line of its own, and named by its long text in eleven lines: some 5 MB, which are
-        # put together in memory from the lines and their texts
+        # each version is ruled out by a line of its own, and named by its long text in eleven lines: some 5 MB, which
+        # are put together in memory from the lines and their texts
         needs = [f"q >=2.0.0, <3.{number}.0" for number in range(1_500)]
-        lines = [publish("q", "1.0.0"), publish("q", "2.0.0"), *(publish("a", f"1.{number}.0+{'b' * 240}", [need]) for number, need in enumerate(needs))]
+        lines = [publish("q", "1.0.0"), publish("q", "2.0.0"),
+                 *(publish("a", f"1.{number}.0+{'b' * 240}", [need]) for number, need in enumerate(needs))]
         asked = [resolve("a *", "q ^1", explain=True), resolve("a *", "q ^1"), LIST]
-        replies = run(["serve", "--workers", "1"], "".join(line + "\n" for line in [*lines, *asked]).encode(),
-                      preexec_fn=within(LIMIT)).stdout.decode().split("\n")[len(lines):]
-        self.assertEqual(replies[:2], ['{"error":18,"name":"NoMemory","revision":1502}', '{"refused":true,"revision":1502}'])
+        replies = served_within(LIMIT, [*lines, *asked])[len(lines):]
+        self.assertEqual(replies[:2],
+                         ['{"error":18,"name":"NoMemory","revision":1502}', '{"refused":true,"revision":1502}'])
         self.assertTrue(replies[2].startswith('{"packages":[["a",') and replies[2].endswith('"revision":1502}'))
-        self.assertEqual(replies[3:], [""])
+        self.assertEqual(len(replies), 3)
 
     def test_it_is_memory_that_the_search_wants(self):
         # with more of it the same search meets more conflicts, until it has met what it may
-        published, _ = self.asked()
-        asked = resolve(*(f"pigeon-{number} *" for number in range(PIGEONS)), budget=CONFLICTS)
-        for limit, name in ((LIMIT, b"NoMemory"), (2 * LIMIT, b"BudgetSpent")):
-            done = run(["serve", "--workers", "1"], "".join(line + "\n" for line in [*published, asked]).encode(), preexec_fn=within(limit))
-            self.assertIn(b'"name":"' + name + b'"', done.stdout.split(b"\n")[-2])
+        asked = resolve(*(f"{bird} *" for bird in BIRDS), budget=CONFLICTS)
+        for limit, name in ((LIMIT, "NoMemory"), (2 * LIMIT, "BudgetSpent")):
+            self.assertIn(f'"name":"{name}"', served_within(limit, [*HOLES, asked])[-1])
 
 
 class Ladders(unittest.TestCase):
@@ -124,10 +130,10 @@ class Ladders(unittest.TestCase):
         asked = resolve("x *", "y *", "rung-0000 *", "step-0000 =1.1.0")
         for rungs, limit in LADDERS:
             with self.subTest(rungs=rungs):
-                replies = run(["serve", "--workers", "1"], "".join(line + "\n" for line in [*ladder(rungs), asked]).encode(),
-                              preexec_fn=within(limit)).stdout.split(b"\n")
-                made = [[f"{name}-{rung:04}", version] for name, version in (("rung", "2.0.0"), ("step", "1.1.0")) for rung in range(rungs)]
-                self.assertEqual(json.loads(replies[-2])["selected"], [["c", "2.0.0"], *made, ["x", "1.0.0"], ["y", "1.0.0"]])
+                reply = served_within(limit, [*ladder(rungs), asked])[-1]
+                made = [[f"{name}-{rung:04}", version] for name, version in (("rung", "2.0.0"), ("step", "1.1.0"))
+                        for rung in range(rungs)]
+                self.assertEqual(json.loads(reply)["selected"], [["c", "2.0.0"], *made, ["x", "1.0.0"], ["y", "1.0.0"]])
 
 
 class Peaks(unittest.TestCase):
@@ -136,10 +142,9 @@ class Peaks(unittest.TestCase):
     def peak_of(self, *files):
         """Kilobytes, and what the race prints."""
         with tempfile.TemporaryDirectory() as folder:
-            paths = [os.path.join(folder, str(number)) for number in range(len(files))]
+            paths = [Path(folder, str(number)) for number in range(len(files))]
             for path, lines in zip(paths, files):
-                with open(path, "w", encoding="ascii") as out:
-                    out.writelines(line + "\n" for line in lines)
+                path.write_text("".join(f"{line}\n" for line in lines), encoding="ascii")
             theirs, ours = os.pipe()
             fcntl.fcntl(ours, fcntl.F_SETPIPE_SZ, PIPE)
             # what fills the pipe is read before what the race writes
@@ -155,16 +160,14 @@ class Peaks(unittest.TestCase):
     def held_up(self, racing):
         """The peak of a race that waits to write."""
         for _ in range(10_000):
-            with open(f"/proc/{racing.pid}/wchan", encoding="ascii") as where:
-                waits = "pipe" in where.read()
-            if waits:
+            if "pipe" in Path(f"/proc/{racing.pid}/wchan").read_text(encoding="ascii"):
                 break
             time.sleep(0.001)
         else:
             # not every system tells where: it had ten seconds
             self.assertIsNone(racing.poll())
-        with open(f"/proc/{racing.pid}/status", encoding="ascii") as status:
-            return int(re.search(r"VmHWM:\s*(\d+) kB", status.read())[1])
+        status = Path(f"/proc/{racing.pid}/status").read_text(encoding="ascii")
+        return int(re.search(r"VmHWM:\s*(\d+) kB", status)[1])
 
     def test_a_race_of_two_files(self):
         peak, printed = self.peak_of([publish("a", "1.0.0")], [publish("a", "1.0.0")])
@@ -180,7 +183,3 @@ class Peaks(unittest.TestCase):
         self.assertEqual(plain_race.judge([[line.encode() for line in lines] for lines in files], printed), 63)
         self.assertLess(peak, MOST_OF_A_RACE + 63 * MOST_OF_A_FILE)
         print(f"({peak} kB) ", end="")
-
-
-if __name__ == "__main__":
-    unittest.main()

@@ -1,4 +1,4 @@
-"""A few sessions that keep a journal, whose files are renamed, removed and replaced. `dev/long/move_journals.py` moves more."""
+"""A few sessions that keep a journal, whose files are moved or removed. `dev/long/move_journals.py` moves more."""
 import unittest
 from unittest import mock
 
@@ -27,7 +27,3 @@ class Moves(unittest.TestCase):
                 way.__name__ = "left"
             _, find = move_journals.tried(1)
         self.assertRegex(find, r"\Aseed 1: left: 1\d\d commands were accepted that were sent later\Z")
-
-
-if __name__ == "__main__":
-    unittest.main()

@@ -1,5 +1,5 @@
-"""The newest selection by its definition: worked cases, what follows from it over random registries, and the tool that judges a
-program by it."""
+"""The newest selection by its definition: worked cases, what follows from it over random registries, and the tool that
+judges a program by it."""
 import json
 import random
 import unittest
@@ -9,7 +9,8 @@ from tests.support.plain_newest import Published
 from tests.support.plain_search import key
 from tests.support.small_registries import small_case
 
-# What is published, as texts `name version: need, need`, with what is yanked; the needs, the lock; and the newest selection, worked by hand.
+# What is published, as texts `name version: need, need`, with what is yanked; the needs, the lock; and the newest
+# selection, worked by hand.
 WORKED = [
     ("the preferred selection serves",
      ["a 1.0.0: b *", "a 2.0.0: b *", "b 1.0.0", "b 2.0.0"], [], ["a *"], [], "a 2.0.0, b 2.0.0"),
@@ -18,11 +19,14 @@ WORKED = [
     ("the same with the names the other way round",
      ["x 1.0.0", "x 2.0.0", "w 1.0.0", "w 2.0.0: x =1.0.0"], [], ["x *", "w *"], [], "w 2.0.0, x 1.0.0"),
     ("the needs come before what is needed for them",
-     ["a 1.0.0: m *", "m 1.0.0", "m 2.0.0: z =1.0.0", "z 1.0.0", "z 2.0.0"], [], ["a *", "z *"], [], "a 1.0.0, m 1.0.0, z 2.0.0"),
+     ["a 1.0.0: m *", "m 1.0.0", "m 2.0.0: z =1.0.0", "z 1.0.0", "z 2.0.0"], [], ["a *", "z *"], [],
+     "a 1.0.0, m 1.0.0, z 2.0.0"),
     ("breadth first: what the first version depends on in second place comes before what its first dependency needs",
-     ["a 1.0.0: p *, q *", "p 1.0.0: r *", "q 1.0.0", "q 2.0.0: r =1.0.0", "r 1.0.0", "r 2.0.0"], [], ["a *"], [], "a 1.0.0, p 1.0.0, q 2.0.0, r 1.0.0"),
+     ["a 1.0.0: p *, q *", "p 1.0.0: r *", "q 1.0.0", "q 2.0.0: r =1.0.0", "r 1.0.0", "r 2.0.0"], [], ["a *"], [],
+     "a 1.0.0, p 1.0.0, q 2.0.0, r 1.0.0"),
     ("dependencies are taken in the order in which they were published, not by name",
-     ["a 1.0.0: q *, p *", "p 1.0.0", "p 2.0.0: q =1.0.0", "q 1.0.0", "q 2.0.0"], [], ["a *"], [], "a 1.0.0, p 1.0.0, q 2.0.0"),
+     ["a 1.0.0: q *, p *", "p 1.0.0", "p 2.0.0: q =1.0.0", "q 1.0.0", "q 2.0.0"], [], ["a *"], [],
+     "a 1.0.0, p 1.0.0, q 2.0.0"),
     ("a version whose dependency has none that serves is passed over",
      ["a 1.0.0", "a 2.0.0: b >1.0.0", "b 1.0.0"], [], ["a *"], [], "a 1.0.0"),
     ("a branch that is not taken leaves nothing behind",
@@ -40,7 +44,8 @@ WORKED = [
     ("one that is named may be the highest",
      ["a 1.0.0", "a 2.0.0-rc.1"], [], ["a >=2.0.0-rc.1"], [], "a 2.0.0-rc.1"),
     ("packages that need each other",
-     ["a 1.0.0: b =1.0.0", "a 2.0.0: b =2.0.0", "b 1.0.0: a =1.0.0", "b 2.0.0: a =1.0.0"], [], ["a *"], [], "a 1.0.0, b 1.0.0"),
+     ["a 1.0.0: b =1.0.0", "a 2.0.0: b =2.0.0", "b 1.0.0: a =1.0.0", "b 2.0.0: a =1.0.0"], [], ["a *"], [],
+     "a 1.0.0, b 1.0.0"),
     ("nothing is needed", ["a 1.0.0"], [], [], [], ""),
     ("nothing serves", ["a 1.0.0: b =2.0.0", "b 1.0.0"], [], ["a *"], [], None),
 ]
@@ -49,7 +54,8 @@ WORKED = [
 def publication(text):
     version, _, needs = text.partition(": ")
     name, number = version.split(" ")
-    return {"op": "publish", "name": name, "version": number, "needs": [need.split(" ", 1) for need in needs.split(", ") if need]}
+    return {"op": "publish", "name": name, "version": number,
+            "needs": [need.split(" ", 1) for need in needs.split(", ") if need]}
 
 
 def pairs(texts):
@@ -140,8 +146,9 @@ class Defined(unittest.TestCase):
         changed = tried = 0
         for seed, case, _, needs, lock, newest in self.cases:
             *before, last = [it for it in case.commands if it["op"] == "publish"]
-            yanks = [it for it in case.commands if it["op"] == "yank" and (it["name"], it["version"]) != (last["name"], last["version"])]
-            earlier, later = made([*before, *yanks]).newest(needs, lock), made([*before, last, *yanks]).newest(needs, lock)
+            yanks = [it for it in case.commands
+                     if it["op"] == "yank" and (it["name"], it["version"]) != (last["name"], last["version"])]
+            earlier, later = (made([*some, *yanks]).newest(needs, lock) for some in (before, [*before, last]))
             tried += 1
             if earlier != later:
                 self.assertIn([last["name"], last["version"]], later, seed)
@@ -191,7 +198,8 @@ class SecondBest(Published):
 
 
 def served_by(kind):
-    """What answers lines as a session does, by the selections of such a registry. Each case has a registry of its own."""
+    """What answers lines as a session does, by the selections of such a registry. Each case has a registry of its
+    own."""
     def serve(lines, _workers):
         registries, replies = {}, []
         for line in lines:
@@ -227,7 +235,3 @@ class Judged(unittest.TestCase):
         def refuses(lines, _workers):
             return ['{"refused":true}' for _ in lines]
         self.assertEqual(len(newest_many.faults(self.SEEDS, refuses)), 3 * len(self.SEEDS))
-
-
-if __name__ == "__main__":
-    unittest.main()

@@ -1,5 +1,6 @@
-"""The newest selection as the program answers it: beside the definition, and what follows from that: whatever order, batches and workers, whoever
-asked what before, the same. Each judge is shown to find what answers otherwise: the program with replies that are changed."""
+"""The newest selection as the program answers it: beside the definition, and what follows from that: whatever order,
+batches and workers, whoever asked what before, the same. Each judge is shown to find what answers otherwise: the
+program with replies that are changed."""
 import itertools
 import json
 import os
@@ -79,7 +80,8 @@ class Properties(unittest.TestCase):
         for seed in (1, 2):
             lines, requests = ([json.loads(it) for it in part] for part in workloads.conflicting(12, seed))
             self.assertEqual(newest_properties.orders(lines, requests, serve, seed=seed), [])
-            self.assertGreater(len(newest_properties.orders(lines, requests, Changed(now_and_then()), ways=10, seed=seed)), 0)
+            self.assertGreater(len(newest_properties.orders(lines, requests, Changed(now_and_then()), ways=10,
+                                                            seed=seed)), 0)
 
     def test_a_yank_of_what_is_not_selected(self):
         self.assertEqual(newest_properties.yanks(SEEDS, serve), [])
@@ -91,7 +93,8 @@ class Properties(unittest.TestCase):
 
 
 class TakenBack(unittest.TestCase):
-    """Packages of each of which the newest version is taken back: the engine learns that of each, unless there are more than 32 and no budget."""
+    """Packages of each of which the newest version is taken back: the engine learns that of each, unless there are more
+    than 32 and no budget."""
 
     @staticmethod
     def resolved(count, **members):
@@ -107,11 +110,8 @@ class TakenBack(unittest.TestCase):
         return json.loads(done.stdout.splitlines()[-1])["selected"], learnt
 
     def test_what_is_learnt(self):
-        for count, members, learnt in ((1, {}, 1), (32, {}, 32), (33, {}, 0), (33, {"budget": 33}, 33), (64, {}, 0), (64, {"budget": 1_000}, 64)):
+        for count, members, learnt in ((1, {}, 1), (32, {}, 32), (33, {}, 0), (33, {"budget": 33}, 33), (64, {}, 0),
+                                       (64, {"budget": 1_000}, 64)):
             with self.subTest(count=count, **members):
                 older = [[f"d{number:05}", "1.0.0"] for number in range(count)]
                 self.assertEqual(self.resolved(count, **members), (older, learnt))
-
-
-if __name__ == "__main__":
-    unittest.main()

@@ -1,4 +1,5 @@
-"""The Debian package: what stands in it, that it is the same whenever it is made, and that it is installed, runs and goes again."""
+"""The Debian package: what stands in it, that it is the same whenever it is made, and that it is installed, runs and
+goes again."""
 import contextlib
 import fcntl
 import gzip
@@ -41,7 +42,8 @@ def dpkg(*words):
     """Runs dpkg, which another run of it holds up."""
     until = time.monotonic() + PATIENCE
     while True:
-        done = run(["dpkg", *words], patience=MOST_SECONDS, env={**os.environ, "DEBIAN_FRONTEND": "noninteractive", "LC_ALL": "C.UTF-8"})
+        done = run(["dpkg", *words], patience=MOST_SECONDS,
+                   env={**os.environ, "DEBIAN_FRONTEND": "noninteractive", "LC_ALL": "C.UTF-8"})
         if "lock" not in done.stderr or not done.returncode or time.monotonic() > until:
             return done
         time.sleep(1)
@@ -257,7 +259,3 @@ class Words(unittest.TestCase):
                 self.assertRaisesRegex(Refused, "debhelper could not"):
             package.build(proved, Path(folder))
         self.assertEqual(os.listdir(folder), [])
-
-
-if __name__ == "__main__":
-    unittest.main()

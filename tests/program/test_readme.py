@@ -9,7 +9,8 @@ import unittest
 
 from tests.support.program import PROGRAM, TOP
 
-PAGES = ["README.md", *(os.path.join("docs", page) for page in sorted(os.listdir(os.path.join(TOP, "docs"))) if page.endswith(".md"))]
+PAGES = ["README.md", *(os.path.join("docs", page) for page in sorted(os.listdir(os.path.join(TOP, "docs")))
+                        if page.endswith(".md"))]
 
 
 def page(name):
@@ -28,7 +29,8 @@ def answers(folder, lines):
     typed = re.sub(r"\./registry\b", os.path.join(TOP, "registry"), typed)
     variables = {**os.environ, "REGISTRY_PROGRAM": PROGRAM, "NO_COLOR": "1"}
     variables.pop("REGISTRY_JOURNAL", None)
-    done = subprocess.run(["sh", "-c", typed], cwd=folder, env=variables, stdin=subprocess.DEVNULL, stdout=subprocess.PIPE, text=True, timeout=300)
+    done = subprocess.run(["sh", "-c", typed], cwd=folder, env=variables, stdin=subprocess.DEVNULL,
+                          stdout=subprocess.PIPE, text=True, timeout=300)
     return done.stdout.splitlines(), done.returncode
 
 
@@ -40,7 +42,8 @@ BEGUN = re.compile(r"""(?:--save |--journal |\./example |journal="|Some\(")([\w-
 
 class Readme(unittest.TestCase):
     def test_each_file_that_is_typed_can_be_run(self):
-        words = [line.split()[0] for name in ("README.md", "docs/WHY.md", "docs/BENCHMARKS.md") for block in blocks(name) for line in block]
+        words = [line.split()[0] for name in ("README.md", "docs/WHY.md", "docs/BENCHMARKS.md")
+                 for block in blocks(name) for line in block]
         files = {word for word in words if re.fullmatch(r"[a-z./_]+", word) and "/" in word}
         self.assertLessEqual({"./registryd", "./registry", "tools/check_derivation.py"}, files)
         files.add("./test")
@@ -54,13 +57,15 @@ class Readme(unittest.TestCase):
     @unittest.skipUnless(shutil.which("rt"), "no command rt on the path")
     def test_it_names_the_logic_of_the_kit(self):
         told = subprocess.run(["rt", "version"], stdout=subprocess.PIPE, text=True, check=True, timeout=60).stdout
-        self.assertEqual(re.findall(r"`rattle-kit-\w+ logic ([0-9a-f]+)`", page("README.md")), re.findall(r"logic ([0-9a-f]+)", told))
+        self.assertEqual(re.findall(r"`rattle-kit-\w+ logic ([0-9a-f]+)`", page("README.md")),
+                         re.findall(r"logic ([0-9a-f]+)", told))
 
     def test_each_page_is_named(self):
         self.assertEqual([name for name in PAGES[1:] if f"({name})" not in page("README.md")], [])
 
     def test_no_two_examples_share_a_file(self):
-        begun = [(file, block[0]) for name in [*PAGES, *CLIENTS] for block in blocks(name) for file in set(BEGUN.findall("\n".join(block)))]
+        begun = [(file, block[0]) for name in [*PAGES, *CLIENTS] for block in blocks(name)
+                 for file in set(BEGUN.findall("\n".join(block)))]
         self.assertLessEqual({"a.journal", "python.journal", "rust.journal", "c.journal"}, {file for file, _ in begun})
         self.assertEqual(len(begun), len({file for file, _ in begun}), begun)
 
@@ -75,7 +80,8 @@ class Readme(unittest.TestCase):
         with tempfile.TemporaryDirectory() as folder:
             self.assertEqual(answers(folder, typed), (told, 0))
             # the line that is printed last asks for the same
-            replies = answers(folder, [f"echo '{told[-1]}' | ./registryd serve --workers 1 --load saved.journal", "cat selected.line"])
+            replies = answers(folder, [f"echo '{told[-1]}' | ./registryd serve --workers 1 --load saved.journal",
+                                       "cat selected.line"])
             self.assertEqual(replies, (['{"revision":1,"selected":[["app","1.0.0"]]}'] * 2, 0))
 
     def test_a_journal_that_is_gone_on_with(self):

@@ -1,5 +1,5 @@
-"""`registry check`: the table `rows/checks.rows`, the program as the judge of which number is told, and the words of the command."""
-import json
+"""`registry check`: the table `rows/checks.rows`, the program as the judge of which number is told, and the words of
+the command."""
 import os
 import random
 import unittest
@@ -8,7 +8,6 @@ from dev.long import fuzz_check
 from registryd_lines.judging import faults
 from registryd_lines.nearest import distance, nearest
 from tests.support.program import TOP, publish
-from tests.support.registry_folder import Folder, at_terminal
 
 LIMIT = 1_048_576
 
@@ -49,20 +48,26 @@ class Lines(unittest.TestCase):
                 (b"", ["1: error 19 BadLine: the line is empty"]),
                 (b" \t\r", ["4: error 19 BadLine: the line is empty"]),
                 (b'{"op":"list"}\r', []),
-                (b'\xef\xbb\xbf{"op":"list"}', ["1: error 19 BadLine: there is a byte order mark here, the bytes EF BB BF; leave it out"]),
+                (b'\xef\xbb\xbf{"op":"list"}', ["1: error 19 BadLine: there is a byte order mark here, the bytes EF BB "
+                                                "BF; leave it out"]),
                 (b'{"op":"list"\xc2\xa0}', ["13: error 19 BadLine: the character U+00A0 is no white space of JSON"]),
                 (b'{"op":\xe2\x80\x8b"list"}', ["7: error 19 BadLine: the character U+200B is no white space of JSON"]),
-                (b'{"op":"list\t"}', ["12: error 19 BadLine: the control character U+0009 must be written as an escape in a text; did you mean \\t?"]),
-                (b'{"op":"list\0"}', ["12: error 19 BadLine: the control character U+0000 must be written as an escape in a text; did you mean \\u0000?"]),
+                (b'{"op":"list\t"}', ["12: error 19 BadLine: the control character U+0009 must be written as an escape "
+                                      "in a text; did you mean \\t?"]),
+                (b'{"op":"list\0"}', ["12: error 19 BadLine: the control character U+0000 must be written as an escape "
+                                      "in a text; did you mean \\u0000?"]),
                 ('{"op":"yank","name":"é","version":"1'.encode() + b'\xe9"}',
                  ["37: error 19 BadLine: byte 38 of the line, 0xE9, is not UTF-8: in Latin-1 it is \"\u00e9\""]),
-                (b'\xff\xfe{\0"\0', ["1: error 19 BadLine: byte 1 of the line, 0xFF, is not UTF-8: the file begins as one in UTF-16"]),
+                (b'\xff\xfe{\0"\0', ["1: error 19 BadLine: byte 1 of the line, 0xFF, is not UTF-8: the file begins as "
+                                     "one in UTF-16"]),
                 (b'{"op":"\xed\xa0\x80"}', ["8: error 19 BadLine: byte 8 of the line, 0xED, is not UTF-8"]),
                 (b'{"op":"yank","name":"\x1b[31m","version":"1"}',
-                 ["22: error 19 BadLine: the control character U+001B must be written as an escape in a text; did you mean \\u001b?"]),
+                 ["22: error 19 BadLine: the control character U+001B must be written as an escape in a text; did you "
+                  "mean \\u001b?"]),
                 (b"[" * 128, ["128: error 19 BadLine: more than 127 brackets are open"]),
                 (b'{"op":"list"}' + b" " * (LIMIT - 13), []),
-                (b'{"op":"list"}' + b" " * (LIMIT - 12), ["1: error 19 BadLine: the line has more than 1,048,576 bytes"])):
+                (b'{"op":"list"}' + b" " * (LIMIT - 12),
+                 ["1: error 19 BadLine: the line has more than 1,048,576 bytes"])):
             with self.subTest(line[:40]):
                 self.assertEqual(in_words(line), wanted)
                 self.assertEqual(fuzz_check.answered([line]), [19 if wanted else 0])
@@ -75,7 +80,8 @@ class Lines(unittest.TestCase):
     def test_a_need_too_many(self):
         needs = [f"n{number} *" for number in range(66)]
         line = publish("a", "1.0.0", needs)
-        self.assertEqual(in_words(line.encode()), [f"{line.index('n64') }: error 6 TooManyDependencies: 66 needs; the limit is 64"])
+        self.assertEqual(in_words(line.encode()), [f"{line.index('n64') }: error 6 TooManyDependencies: 66 needs; the "
+                                                   "limit is 64"])
         self.assertEqual(in_words(publish("a", "1.0.0", needs[:64]).encode()), [])
 
     def test_damaged_lines(self):
@@ -89,7 +95,8 @@ class Lines(unittest.TestCase):
         print(f"({sum(counts.values())} lines) ", end="")
 
     def test_what_was_meant_ends_the_fault(self):
-        """Of each line of the table with one fault, what was meant instead of a text is taken by the program in its place."""
+        """Of each line of the table with one fault, what was meant instead of a text is taken by the program in its
+        place."""
         lines, counted = [], 0
         for _, line, wanted in rows():
             edit = faults(line.encode())[0].edit if len(wanted) == 1 else None
@@ -98,59 +105,8 @@ class Lines(unittest.TestCase):
         for line, number in zip(lines, fuzz_check.answered(lines)):
             counted += number == 0
         # what is left are lines of which a part is missing, or has a second fault that is only seen behind the first
-        self.assertGreaterEqual(counted, len(lines) * 2 // 3, [line for line, number in zip(lines, fuzz_check.answered(lines)) if number])
-
-
-class Command(Folder):
-    def check(self, *words, **more):
-        return self.registry("check", *words, **more)
-
-    def test_faults(self):
-        path = self.path("some.lines", '{"op":"list"}\n{"op":"publsh"}\n{"op":"yank","name":"A","version":"1"}\n{"op":"list"}')
-        self.assertEqual(self.check(path), (1, (
-            'some.lines:2:7: error 19 BadLine: there is no op "publsh"; did you mean "publish"?\n'
-            'some.lines:3:22: error 1 BadName: the capital letter "A", byte 1 of the name "A", is not one of a-z, 0-9, - and _; did you mean "a"?\n'
-            'some.lines:3:37: error 2 BadVersion: the version "1" has no minor number; did you mean "1.0.0"?\n'),
-            "registry: some.lines: 2 of 4 lines would be refused\n"))
-
-    def test_no_faults(self):
-        path = self.path("good.lines", publish("a", "1.0.0") + "\n")
-        self.assertEqual(self.check(path), (0, "", "registry: good.lines: 1 line, and no errors\n"))
-        self.assertEqual(self.check("-"), (0, "", "registry: <stdin>: 0 lines, and no errors\n"))
-
-    def test_as_json(self):
-        status, printed, _ = self.check("--json", "-", given='{"op":"list",}\n{"op":"list"}\n')
-        self.assertEqual((status, json.loads(printed)), (1, {"file": "<stdin>", "lines": 2, "refused": 1, "faults": [
-            {"line": 1, "column": 13, "error": 19, "name": "BadLine", "what": "there is a trailing comma", "meant": None}]}))
-        self.assertEqual(printed.count("\n"), 1)
-
-    def test_a_line_without_an_end(self):
-        path = self.path("long.lines", '{"op":"list"}\n' + "x" * (3 * LIMIT) + '\n{"op":"list"}\n{"op":"lists"}')
-        status, printed, _ = self.check(path)
-        self.assertEqual((status, printed), (1, "long.lines:2:1: error 19 BadLine: the line has more than 1,048,576 bytes\n"
-                                                'long.lines:4:7: error 19 BadLine: there is no op "lists"; did you mean "list"?\n'))
-
-    def test_a_text_that_is_open_where_its_line_ends(self):
-        status, printed, _ = self.check(self.path("open.lines", '{"op":"list\n{"op":"list"}\n'))
-        self.assertEqual((status, printed), (1, "open.lines:1:7: error 19 BadLine: this text has no closing quote\n"))
-
-    def test_in_colour(self):
-        path = self.path("some.lines", '{"op":"lists"}\n')
-        status, shown = at_terminal([os.path.join(TOP, "registry"), "check", path], {"NO_COLOR": ""})
-        self.assertEqual((status, shown.replace(self.folder + os.sep, "").splitlines()), (1, [
-            '\x1b[1msome.lines:1:7:\x1b[0m \x1b[31merror 19 BadLine:\x1b[0m there is no op "lists"; did you mean "list"?',
-            "\x1b[1mregistry:\x1b[0m some.lines: 1 of 1 line would be refused"]))
-
-    def test_a_file_that_is_not_there(self):
-        self.assertEqual(self.check(self.path("none.lines")), (3, "", "registry: none.lines: No such file or directory\n"))
-
-    def test_one_mistake_in_thousands_of_lines(self):
-        lines = [publish(f"p{number % 300}", f"1.{number}.0", [f"p{number % 7 + 300} ^1"]) for number in range(6000)]
-        lines[4321] = lines[4321].replace('"needs"', '"neds"')
-        status, printed, noted = self.check(self.path("many.lines", "\n".join(lines)))
-        self.assertEqual((status, printed), (1, f"many.lines:4322:{lines[4321].index('neds')}: error 19 BadLine: a publish line has no member "
-                                                '"neds"; did you mean "needs"?\n'))
-        self.assertEqual(noted, "registry: many.lines: 1 of 6,000 lines would be refused\n")
+        self.assertGreaterEqual(counted, len(lines) * 2 // 3,
+                                [line for line, number in zip(lines, fuzz_check.answered(lines)) if number])
 
 
 def plain_distance(one, other):
@@ -158,7 +114,8 @@ def plain_distance(one, other):
     least = {}
     for i in range(len(one) + 1):
         for j in range(len(other) + 1):
-            ways = [i + j] if not i or not j else [least[i - 1, j] + 1, least[i, j - 1] + 1, least[i - 1, j - 1] + (one[i - 1] != other[j - 1])]
+            ways = [i + j] if not i or not j else [least[i - 1, j] + 1, least[i, j - 1] + 1,
+                                                   least[i - 1, j - 1] + (one[i - 1] != other[j - 1])]
             if i > 1 and j > 1 and one[i - 2:i] == other[j - 2:j][::-1]:
                 ways.append(least[i - 2, j - 2] + 1)
             least[i, j] = min(ways)
@@ -168,10 +125,14 @@ def plain_distance(one, other):
 class Nearest(unittest.TestCase):
     def test_edits(self):
         for word, words, wanted in (
-                ("publsh", ["publish", "resolve"], "publish"), ("lsit", ["list"], "list"), ("serde_jsn", ["serde", "serde_json"], "serde_json"),
-                ("serde-json", ["serde_json", "serde"], "serde_json"), ("Rand", ["rand"], "rand"), ("RESOLVE", ["resolve"], "resolve"),
-                ("ab", ["ba", "cd"], "ba"), ("a", ["b"], "b"), ("ab", ["cd"], None), ("tokio", ["toki", "tokyo", "tokoi"], "toki"),
-                ("abcdef", ["badcfe"], None), ("abcdef", ["bacdfe"], "bacdfe"), ("", ["a"], "a"), ("", ["ab"], None), ("yank", [], None),
+                ("publsh", ["publish", "resolve"], "publish"), ("lsit", ["list"], "list"),
+                ("serde_jsn", ["serde", "serde_json"], "serde_json"),
+                ("serde-json", ["serde_json", "serde"], "serde_json"), ("Rand", ["rand"], "rand"),
+                ("RESOLVE", ["resolve"], "resolve"),
+                ("ab", ["ba", "cd"], "ba"), ("a", ["b"], "b"), ("ab", ["cd"], None),
+                ("tokio", ["toki", "tokyo", "tokoi"], "toki"),
+                ("abcdef", ["badcfe"], None), ("abcdef", ["bacdfe"], "bacdfe"), ("", ["a"], "a"), ("", ["ab"], None),
+                ("yank", [], None),
                 ("abcdefghijkl", ["abcdefghijxy"], "abcdefghijxy"), ("abcdefghijkl", ["abcdefghixyz"], None)):
             with self.subTest(word, words=words):
                 self.assertEqual(nearest(word, words), wanted)
@@ -181,13 +142,10 @@ class Nearest(unittest.TestCase):
         for _ in range(3000):
             one, other = ("".join(rng.choice("abc") for _ in range(rng.randrange(7))) for _ in range(2))
             for most in (0, 1, 2, 3):
-                self.assertEqual(min(distance(one, other, most), most + 1), min(plain_distance(one, other), most + 1), (one, other, most))
+                self.assertEqual(min(distance(one, other, most), most + 1), min(plain_distance(one, other), most + 1),
+                                 (one, other, most))
 
     def test_among_as_many_names_as_there_may_be(self):
         names = [f"package-{number:05}" for number in range(65_534)] + ["serialize"]
         self.assertEqual(nearest("serialise", names), "serialize")
         self.assertIsNone(nearest("something-else", names))
-
-
-if __name__ == "__main__":
-    unittest.main()

@@ -1,4 +1,5 @@
-"""A session with a service in one process: services that answer, break off and come back, and where one is. They are made up."""
+"""A session with a service in one process: services that answer, break off and come back, and where one is. They are
+made up."""
 import contextlib
 import io
 import json
@@ -32,7 +33,8 @@ class Connections:
         asked = []
         self.asked.append(asked)
         text = "".join(line if line.endswith("!") else line + "\n" for line in answers).replace("!", "").encode()
-        self.made.append(mock.Mock(sendall=lambda data: asked.extend(data.decode().splitlines()), makefile=mock.Mock(return_value=io.BytesIO(text))))
+        self.made.append(mock.Mock(sendall=lambda data: asked.extend(data.decode().splitlines()),
+                                   makefile=mock.Mock(return_value=io.BytesIO(text))))
         return self.made[-1]
 
     def closed(self):
@@ -53,7 +55,8 @@ class Connecting(unittest.TestCase):
     def connected(self, *lives, journals=()):
         self.connections = Connections(*lives)
         self.enterContext(mock.patch.object(connected, "connect", self.connections.connect))
-        self.journals = self.enterContext(mock.patch.object(connected, "journal_of_service", side_effect=list(journals)))
+        self.journals = self.enterContext(mock.patch.object(connected, "journal_of_service",
+                                                            side_effect=list(journals)))
         return connected.Connected("address")
 
     def sent(self, life):
@@ -62,19 +65,23 @@ class Connecting(unittest.TestCase):
     def test_requests_and_commands(self):
         made = self.connected([EMPTY % 2, OK % 3, '{"error":7,"name":"AlreadyPublished","revision":3}'])
         self.assertEqual(made.revision, 2)
-        self.assertEqual(made.ask(A1, A1), [{"ok": True, "revision": 3}, {"error": 7, "name": "AlreadyPublished", "revision": 3}])
+        self.assertEqual(made.ask(A1, A1),
+                         [{"ok": True, "revision": 3}, {"error": 7, "name": "AlreadyPublished", "revision": 3}])
         self.assertEqual((self.sent(0), made.revision, self.slept), ([{"op": "resolve", "needs": []}, A1, A1], 3, []))
 
     def test_what_was_carried_out_before_it_broke_off_is_not_asked_again(self):
-        for broken in ([EMPTY % 0, OK % 1], [EMPTY % 0, OK % 1, '{"error":503,"name":"Unavailable","revision":1}'], [EMPTY % 0, OK % 1, '{"ok":true,"revision":2}!']):
+        for broken in ([EMPTY % 0, OK % 1], [EMPTY % 0, OK % 1, '{"error":503,"name":"Unavailable","revision":1}'],
+                       [EMPTY % 0, OK % 1, '{"ok":true,"revision":2}!']):
             made = self.connected(broken, [OK % 3], journals=[journal([json.dumps(A1), json.dumps(B1)])])
             self.assertEqual(made.ask(A1, B1, C1), [{"ok": True, "revision": number} for number in (1, 2, 3)])
             self.assertEqual((self.sent(1), made.revision), ([C1], 3))
 
     def test_what_was_not_is(self):
         request = json.loads(resolve("a *"))
-        made = self.connected([EMPTY % 0, OK % 1], [OK % 2, '{"revision":2,"selected":[["a","1.0.0"]]}'], journals=[journal([json.dumps(A1)])])
-        self.assertEqual(made.ask(A1, B1, request), [{"ok": True, "revision": 1}, {"ok": True, "revision": 2}, {"revision": 2, "selected": [["a", "1.0.0"]]}])
+        made = self.connected([EMPTY % 0, OK % 1], [OK % 2, '{"revision":2,"selected":[["a","1.0.0"]]}'],
+                              journals=[journal([json.dumps(A1)])])
+        self.assertEqual(made.ask(A1, B1, request), [{"ok": True, "revision": 1}, {"ok": True, "revision": 2},
+                                                     {"revision": 2, "selected": [["a", "1.0.0"]]}])
         self.assertEqual((self.sent(1), self.slept), ([B1, request], [0.2]))
 
     def test_a_request_before_what_was_carried_out(self):
@@ -90,7 +97,8 @@ class Connecting(unittest.TestCase):
         self.assertEqual((self.sent(0)[1:], self.slept), ([A1, B1], []))
 
     def test_patience_begins_anew_with_each_reply(self):
-        made = self.connected([EMPTY % 0, OK % 1], [], [OK % 2], journals=[Failed("not now"), journal([json.dumps(A1)])])
+        made = self.connected([EMPTY % 0, OK % 1], [], [OK % 2],
+                              journals=[Failed("not now"), journal([json.dumps(A1)])])
         self.now += 9.9
         self.assertEqual(made.ask(A1, B1), [{"ok": True, "revision": 1}, {"ok": True, "revision": 2}])
         self.assertEqual(self.connections.closed(), [True, True, False])
@@ -104,7 +112,8 @@ class Connecting(unittest.TestCase):
         made = self.connected([EMPTY % 0])
         with self.assertRaises(Failed) as caught:
             made.ask(A1)
-        self.assertEqual(str(caught.exception), "the service at address broke off before it had answered, and does not come back: a command that was under way may have been accepted")
+        self.assertEqual(str(caught.exception), "the service at address broke off before it had answered, and does not "
+                                                "come back: a command that was under way may have been accepted")
         self.assertTrue(10 < self.now < 10.5, self.now)
 
     def test_one_whose_journal_is_not_told_yet(self):
@@ -161,14 +170,20 @@ class Addresses(unittest.TestCase):
         for family, at, revision in ((socket.AF_INET, ("127.0.0.1", 0), ""), (socket.AF_UNIX, path, 7)):
             found, heard, thread = self.served(family, at, b"HTTP/1.1 200 OK\r\nX: y\r\n\r\nregistry\r\n\r\nx")
             address = path if family == socket.AF_UNIX else f"[127.0.0.1]:{found[1]}"
-            self.assertEqual(connected.journal_of_service(address, *([revision] if revision else [])), b"registry\r\n\r\nx")
+            self.assertEqual(connected.journal_of_service(address, *([revision] if revision else [])),
+                             b"registry\r\n\r\nx")
             thread.join()
-            self.assertEqual(heard, [b"GET /journal HTTP/1.0\r\n\r\n" if revision == "" else b"GET /journal?revision=7 HTTP/1.0\r\n\r\n"])
+            self.assertEqual(heard, [b"GET /journal HTTP/1.0\r\n\r\n" if revision == ""
+                                     else b"GET /journal?revision=7 HTTP/1.0\r\n\r\n"])
         found, _, _ = self.served(socket.AF_INET, ("127.0.0.1", 0), b"HTTP/1.1 503 X\r\n\r\nnot now\xff\n")
-        with self.assertRaisesRegex(Failed, rf"\Athe service at 127.0.0.1:{found[1]} does not tell its journal now: not now\ufffd\Z"):
+        with self.assertRaisesRegex(Failed, rf"\Athe service at 127.0.0.1:{found[1]} does not tell its journal now: "
+                                            r"not now\ufffd\Z"):
             connected.journal_of_service(f"127.0.0.1:{found[1]}")
-        for address, told in ((path + "x", "No such file or directory"), ("127.0.0.1:1", "Connection refused"), (path + "x" * 200, "AF_UNIX path too long"), ("127.0.0.1:65536", "65535 is the highest port"),
-                              ("127.0.0.1:" + "9" * 5000, "65535 is the highest port"), ("127.0.0.1:\u00b2", "No such file or directory")):
+        for address, told in ((path + "x", "No such file or directory"), ("127.0.0.1:1", "Connection refused"),
+                              (path + "x" * 200, "AF_UNIX path too long"),
+                              ("127.0.0.1:65536", "65535 is the highest port"),
+                              ("127.0.0.1:" + "9" * 5000, "65535 is the highest port"),
+                              ("127.0.0.1:\u00b2", "No such file or directory")):
             self.assertRaisesRegex(Failed, rf"\Ano service answers at {address}: {told}\Z", connected.connect, address)
         with mock.patch.object(connected.socket, "create_connection") as made:
             self.assertIs(connected.connect("[::1]:65535"), made.return_value)
@@ -179,8 +194,5 @@ class Addresses(unittest.TestCase):
         made.return_value.close.assert_called_once_with()
 
     def test_a_command_as_a_journal_has_it(self):
-        self.assertEqual(connected.line_of({"op": "yank", "name": "é", "version": "1.0.0"}), '{"name":"é","op":"yank","version":"1.0.0"}'.encode())
-
-
-if __name__ == "__main__":
-    unittest.main()
+        self.assertEqual(connected.line_of({"op": "yank", "name": "é", "version": "1.0.0"}),
+                         '{"name":"é","op":"yank","version":"1.0.0"}'.encode())

@@ -1,7 +1,6 @@
 """From nine tenths of a limit on each subcommand of `registry` that asks a journal says so, and not before."""
 import json
 import os
-import unittest
 
 from registry_cli.near_limits import warnings
 from tests.support.registry_folder import Folder
@@ -23,12 +22,14 @@ def of_names(count):
     """Publications, one each of fifteen packages, that name so many packages in all."""
     names = [f"n{number}" for number in range(count)]
     rows = [names[at:at + 15] for at in range(0, count, 15)]
-    return [{"op": "publish", "name": row[0], "version": "1.0.0", "needs": [[it, "*"] for it in row[1:]]} for row in rows]
+    return [{"op": "publish", "name": row[0], "version": "1.0.0", "needs": [[it, "*"] for it in row[1:]]}
+            for row in rows]
 
 
 def many(count):
     """So many commands, on enough packages that none has many versions."""
-    return [it for number in range(count // 2000) for it in versions(f"p{number}", 2000)] + versions("rest", count % 2000)
+    return ([it for number in range(count // 2000) for it in versions(f"p{number}", 2000)]
+            + versions("rest", count % 2000))
 
 
 class Limits(Folder):
@@ -41,7 +42,8 @@ class Limits(Folder):
         for before, first, said in (
                 (many(44_236), many(44_237), "registry.journal has 44,237 of 49,152 commands"),
                 (of_names(58_981), of_names(58_982), "registry.journal names 58,982 of 65,535 packages"),
-                (versions("log", 3_686), versions("log", 3_687), "registry.journal has 3,687 of 4,096 versions of log")):
+                (versions("log", 3_686), versions("log", 3_687),
+                 "registry.journal has 3,687 of 4,096 versions of log")):
             with self.subTest(said):
                 self.path("registry.journal", journal(before))
                 self.assertEqual(self.warned("list"), (0, ""))
@@ -50,18 +52,22 @@ class Limits(Folder):
 
     def test_what_a_publication_makes(self):
         self.path("registry.journal", journal(versions("log", 3_686)))
-        self.assertEqual(self.warned("publish", "log", "2.0.0"), (0, f"registry: registry.journal has 3,687 of 4,096 versions of log: {RENEW}\n"))
-        self.assertEqual(self.warned("journal", "verify", self.journal), (0, f"registry: registry.journal has 3,687 of 4,096 versions of log: {RENEW}\n"))
+        self.assertEqual(self.warned("publish", "log", "2.0.0"),
+                         (0, f"registry: registry.journal has 3,687 of 4,096 versions of log: {RENEW}\n"))
+        self.assertEqual(self.warned("journal", "verify", self.journal),
+                         (0, f"registry: registry.journal has 3,687 of 4,096 versions of log: {RENEW}\n"))
 
     def test_yanks_and_what_was_learnt(self):
         """A yank is a command and no version; what was learnt is neither, and names no package anew."""
         held = versions("log", 3_686)
         yanks = [{"op": "yank", "name": it["name"], "version": it["version"]} for it in held]
-        learnt = ['{"derivation":[{"causes":[{"line":1},{"line":1}],"conclusion":[["n%d",true,[0]]],"pivot":"a"}],"op":"learn"}' % it for it in range(100)]
+        row = '{"causes":[{"line":1},{"line":1}],"conclusion":[["n%d",true,[0]]],"pivot":"a"}'
+        learnt = [f'{{"derivation":[{row % it}],"op":"learn"}}' for it in range(100)]
         self.assertEqual(list(warnings("j", journal(held + yanks, learnt).encode())), [])
         full = many(44_236)
         self.assertEqual(list(warnings("j", journal(full, learnt).encode())), [])
-        self.assertEqual(len(list(warnings("j", journal([*full, {"op": "yank", "name": "p0", "version": "1.0.0"}], learnt).encode()))), 1)
+        self.assertEqual(len(list(warnings("j", journal([*full, {"op": "yank", "name": "p0", "version": "1.0.0"}],
+                                                        learnt).encode()))), 1)
         # without its end, as a session has it
         self.assertEqual(len(list(warnings("j", journal([*full, full[0]]).encode().rpartition(b"end")[0]))), 1)
 
@@ -70,8 +76,5 @@ class Limits(Folder):
         status, noted = self.warned("journal", "renew", self.journal, self.path("new.journal"), "--newest", "3690")
         self.assertEqual((status, noted), (0, f"registry: new.journal has 3,690 of 4,096 versions of log: {RENEW}\n"))
         os.unlink(self.path("new.journal"))
-        self.assertEqual(self.warned("journal", "renew", self.journal, self.path("new.journal"), "--newest", "3"), (0, ""))
-
-
-if __name__ == "__main__":
-    unittest.main()
+        self.assertEqual(self.warned("journal", "renew", self.journal, self.path("new.journal"), "--newest", "3"),
+                         (0, ""))

@@ -1,6 +1,5 @@
 """Pictures of long derivations: what is drawn, what is folded, and what is told of that."""
 import json
-import unittest
 
 from bench import workloads
 from registry_cli import drawing
@@ -43,7 +42,8 @@ class Folded(Folder):
         self.assertLess(high, 4_000)
         self.assertEqual((len(boxes), numbers), (len(numbers), sorted(numbers)))
         self.assertEqual(numbers[-1], derivation.last.number)
-        self.assertIn(f"{len(lines) - len(numbers)} of the {len(lines)} lines are folded: a dashed box says what they lead to. The sentences tell all of them.", said)
+        self.assertIn(f"{len(lines) - len(numbers)} of the {len(lines)} lines are folded: a dashed box says what they "
+                      "lead to. The sentences tell all of them.", said)
         dashed = [number for number, it in zip(numbers, boxes) if it.get("stroke-dasharray")]
         for number in numbers:
             below = {it.number for it in lines[number].below() if it.number}
@@ -71,7 +71,3 @@ class Folded(Folder):
         self.assertEqual((found[0][0][0], found[0][0][2]), (0, ""))
         self.assertLess(found[0][1], FEW)
         self.assertGreater(found[1][1], 180)
-
-
-if __name__ == "__main__":
-    unittest.main()

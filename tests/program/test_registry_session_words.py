@@ -1,5 +1,5 @@
-"""Which session a subcommand of `registry` gets, with which words its program is begun, and what is told of why that ends, in one process:
-over programs that are made up."""
+"""Which session a subcommand of `registry` gets, with which words its program is begun, and what is told of why that
+ends, in one process: over programs that are made up."""
 import json
 import os
 import tempfile
@@ -16,15 +16,22 @@ from tests.support.program import in_time, publish
 
 A1 = publish("a", "1.0.0")
 # it answers its words, how many bytes the journal has that it is to load, and then nothing
-TELLING = 'exec 2> /dev/null; for last; do :; done; echo "{\\"words\\":\\"$*\\"}"; echo "{\\"bytes\\":$(wc -c < "${last#--load=}")}"; cat > /dev/null'
+TELLING = """exec 2> /dev/null; for last; do :; done; echo '{"words":"'"$*"'"}'
+echo '{"bytes":'"$(wc -c < "${last#--load=}")}"; cat > /dev/null"""
 # what the program says as it ends, by docs/FORMATS.md, and what is told of that of a journal `j`
 SAID = [
-    ("registryd: journal j: in use by another session\n", "j is in use by another session: try again once that has ended"),
-    ("registryd: journal line 7\n", "j: line 7 is at fault: `registry journal verify j` says why, and `registry journal repair j` keeps what is before it"),
-    ("registryd: journal j: line 12\n", "j: line 12 is at fault: `registry journal verify j` says why, and `registry journal repair j` keeps what is before it"),
-    ("registryd: journal j: can't be opened: Permission denied (os error 13)\n", "j: can't be opened: Permission denied: --journal FILE names another"),
-    ("registryd: input failed\n", "j can't be read"), ("registryd: output failed\n", "j can't be written: it has the commands that were accepted before"),
-    ("registryd: no memory\n", "there is not enough memory for j"), ("registryd: building\n", ""), ("no memory\n", ""), ("registryd: no memory", ""), ("", ""),
+    ("registryd: journal j: in use by another session\n", "j is in use by another session: try again once that has "
+                                                          "ended"),
+    ("registryd: journal line 7\n", "j: line 7 is at fault: `registry journal verify j` says why, and `registry "
+                                    "journal repair j` keeps what is before it"),
+    ("registryd: journal j: line 12\n", "j: line 12 is at fault: `registry journal verify j` says why, and `registry "
+                                        "journal repair j` keeps what is before it"),
+    ("registryd: journal j: can't be opened: Permission denied (os error 13)\n",
+     "j: can't be opened: Permission denied: --journal FILE names another"),
+    ("registryd: input failed\n", "j can't be read"),
+    ("registryd: output failed\n", "j can't be written: it has the commands that were accepted before"),
+    ("registryd: no memory\n", "there is not enough memory for j"), ("registryd: building\n", ""), ("no memory\n", ""),
+    ("registryd: no memory", ""), ("", ""),
 ]
 
 
@@ -37,7 +44,8 @@ class Which(unittest.TestCase):
         self.enterContext(mock.patch.dict(os.environ))
         for name in (session.VARIABLE, session.SERVICE):
             os.environ.pop(name, None)
-        self.made = self.enterContext(mock.patch.multiple(session, Reading=mock.DEFAULT, Writing=mock.DEFAULT, connected=mock.DEFAULT))
+        self.made = self.enterContext(mock.patch.multiple(session, Reading=mock.DEFAULT, Writing=mock.DEFAULT,
+                                                          connected=mock.DEFAULT))
 
     def test_one_of_a_file(self):
         self.assertIs(session.reading(given(journal="j")), self.made["Reading"].return_value)
@@ -89,8 +97,9 @@ class Begun(unittest.TestCase):
         with open(self.path, "wb") as file:
             file.write(b"x" * 5)
         for fault, is_told in ((None, True), (Refused("no"), True), (ZeroDivisionError(), False)):
+            # it has the journal, so it answers
             with mock.patch.object(session.near_limits, "warn") as warn, \
-                    mock.patch.object(session, "program", lambda: ["sh", "-c", f"echo '{{}}'; {TELLING}", "sh"]):  # it has the journal, so it answers
+                    mock.patch.object(session, "program", lambda: ["sh", "-c", f"echo '{{}}'; {TELLING}", "sh"]):
                 try:
                     with session.Writing(self.path) as made:
                         self.assertEqual(made.ask({})[0]["words"], f"serve --workers 1 --journal={self.path}")
@@ -125,7 +134,8 @@ class Told(unittest.TestCase):
                 self.assertRaisesRegex(Failed, r"\Athere is not enough memory for j\Z", made.ask, {})
                 made.leave()
             heard.clear()
-            with mock.patch.object(session, "program", lambda: ["sh", "-c", "echo 'registryd: no memory' >&2; exec cat"]):
+            with mock.patch.object(session, "program",
+                                   lambda: ["sh", "-c", "echo 'registryd: no memory' >&2; exec cat"]):
                 made = session.Session("j", [])
                 heard.wait()
                 made.leave()
@@ -140,7 +150,3 @@ class Told(unittest.TestCase):
             file.write(b"more\n")
             file.flush()
             self.assertEqual((session.snapshot(file.name), pauses), (whole + b"more\n", [0.01] * 20))
-
-
-if __name__ == "__main__":
-    unittest.main()

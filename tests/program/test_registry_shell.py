@@ -10,7 +10,6 @@ import subprocess
 import tempfile
 import termios
 import time
-import unittest
 from unittest import mock
 
 from registry_cli.failures import Refused
@@ -26,9 +25,11 @@ SECONDS = 60  # until what is waited for has failed
 
 
 def pigeons(count):
-    """Publications of so many pigeons that each need a hole of their own among one too few: a search that takes for ever."""
+    """Publications of so many pigeons that each need a hole of their own among one too few: a search that takes for
+    ever."""
     holes = [publish(f"hole{hole}", f"{pigeon}.0.0") for hole in range(count - 1) for pigeon in range(1, count + 1)]
-    birds = [publish(f"pigeon{pigeon}", f"{hole + 1}.0.0", [f"hole{hole} ={pigeon}.0.0"]) for pigeon in range(1, count + 1) for hole in range(count - 1)]
+    birds = [publish(f"pigeon{pigeon}", f"{hole + 1}.0.0", [f"hole{hole} ={pigeon}.0.0"])
+             for pigeon in range(1, count + 1) for hole in range(count - 1)]
     return holes + birds, [f"pigeon{pigeon}" for pigeon in range(1, count + 1)]
 
 
@@ -38,9 +39,11 @@ class Terminal:
     def __init__(self, folder, *words, **environment):
         self.ours, theirs = pty.openpty()
         kept = {name: it for name, it in os.environ.items() if not name.startswith("REGISTRY_")}
-        told = {**kept, "REGISTRY_PROGRAM": PROGRAM, "TERM": "xterm", "HOME": folder, "XDG_STATE_HOME": os.path.join(folder, "state"),
+        told = {**kept, "REGISTRY_PROGRAM": PROGRAM, "TERM": "xterm", "HOME": folder,
+                "XDG_STATE_HOME": os.path.join(folder, "state"),
                 "INPUTRC": os.devnull, "NO_COLOR": "1", **environment}
-        self.running = subprocess.Popen([COMMAND, "shell", *words], cwd=folder, stdin=theirs, stdout=theirs, stderr=theirs, env=told,
+        self.running = subprocess.Popen([COMMAND, "shell", *words], cwd=folder, stdin=theirs, stdout=theirs,
+                                        stderr=theirs, env=told,
                                         start_new_session=True, preexec_fn=take_terminal)
         os.close(theirs)
         self.shown, self.seen = "", 0
@@ -98,8 +101,8 @@ class Terminal:
 
 
 def take_terminal():
-    """Makes standard input the terminal of this process, so that its keys are signals to it. Whoever runs these tests may have it pass
-    over them."""
+    """Makes standard input the terminal of this process, so that its keys are signals to it. Whoever runs these tests
+    may have it pass over them."""
     signal.signal(signal.SIGINT, signal.SIG_DFL)
     fcntl.ioctl(0, termios.TIOCSCTTY, 0)
 
@@ -113,7 +116,8 @@ class Typed(Folder):
     def test_lines_over_one_session(self):
         with self.terminal() as shell:
             self.assertEqual(shell.child(), [])
-            self.assertEqual(shell.answer("list"), "registry: registry.journal: there is no such journal: `registry publish` or `registry import` begins one, "
+            self.assertEqual(shell.answer("list"), "registry: registry.journal: there is no such journal: `registry "
+                                                   "publish` or `registry import` begins one, "
                                                    "and --journal FILE names another\n")
             self.assertEqual(shell.answer("publish log 1.0.0"), "published log 1.0.0 (revision 1)\n")
             child = shell.child()
@@ -121,14 +125,17 @@ class Typed(Folder):
             self.assertEqual(shell.answer("publish app 1.0.0 'log@>=1, <2'"), "published app 1.0.0 (revision 2)\n")
             self.assertEqual(shell.answer("registry resolve app"), "app 1.0.0\nlog 1.0.0\n")
             self.assertEqual(shell.answer("yank log 2.0.0"), "registry: log 2.0.0 is not published; there is 1.0.0\n")
-            self.assertEqual(shell.answer("show 'log"), "registry: a quote is not closed, or nothing follows a backslash\n")
+            self.assertEqual(shell.answer("show 'log"), "registry: a quote is not closed, or nothing follows a "
+                                                        "backslash\n")
             self.assertEqual(shell.answer("shell"), "registry: this is the shell already: Ctrl-D ends it\n")
             self.assertEqual(shell.answer(""), "")
             self.assertEqual(shell.child(), child)
-            said = subprocess.run([COMMAND, "publish", "other", "1.0.0", "--wait", "0"], cwd=self.folder, env={**os.environ, "REGISTRY_PROGRAM": PROGRAM},
+            said = subprocess.run([COMMAND, "publish", "other", "1.0.0", "--wait", "0"], cwd=self.folder,
+                                  env={**os.environ, "REGISTRY_PROGRAM": PROGRAM},
                                   stderr=subprocess.PIPE)
             self.assertEqual((said.returncode, said.stderr.decode()), (
-                3, f'registry: registry.journal is in use by another session (process {shell.running.pid}, "registry shell"): try again once that has ended\n'))
+                3, f'registry: registry.journal is in use by another session (process {shell.running.pid}, "registry '
+                   'shell"): try again once that has ended\n'))
             self.assertEqual(shell.end(), 0)
             self.assertFalse(os.path.exists(f"/proc/{child[0]}/exe"))
         self.assertEqual(self.text("registry.journal").splitlines()[-1], "end 2")
@@ -137,19 +144,24 @@ class Typed(Folder):
         other = self.path("other.journal")
         with self.terminal("--journal", other) as shell:
             shell.answer("publish log 1.0.0")
-            self.assertEqual(shell.answer("publish zlib 1.0.0 --journal third.journal"), "published zlib 1.0.0 (revision 1)\n")
+            self.assertEqual(shell.answer("publish zlib 1.0.0 --journal third.journal"),
+                             "published zlib 1.0.0 (revision 1)\n")
             self.assertEqual(shell.answer("list"), "log  1.0.0  1 version\n")
             self.assertEqual(shell.answer("list --journal third.journal"), "zlib  1.0.0  1 version\n")
             self.assertEqual(shell.end("exit\n"), 0)
         self.assertFalse(os.path.exists(self.journal))
 
     def test_completion(self):
-        self.hold(publish("log", "1.0.0"), publish("log", "1.2.0"), publish("logger", "0.1.0"), publish("zlib", "1.0.0"))
+        self.hold(publish("log", "1.0.0"), publish("log", "1.2.0"), publish("logger", "0.1.0"),
+                  publish("zlib", "1.0.0"))
         os.mkdir(self.path("folder"))
         self.path("my lock.lock", "[]")
-        for typed, shown in (("pub\t", "publish "), ("jour\tver\t", "journal verify "), ("show z\t", "show zlib "), ("registry show z\t", "registry show zlib "),
-                             ("yank log 1.2\t", "yank log 1.2.0 "), ("yank zlib \t", "yank zlib 1.0.0 "), ("resolve zlib --bud\t", "resolve zlib --budget "),
-                             ("resolve zlib@=1\t", "resolve zlib@=1.0.0 "), ("resolve zlib@^\t", "resolve zlib@^1.0.0 "), ("ex\t", "exit "),
+        for typed, shown in (("pub\t", "publish "), ("jour\tver\t", "journal verify "), ("show z\t", "show zlib "),
+                             ("registry show z\t", "registry show zlib "),
+                             ("yank log 1.2\t", "yank log 1.2.0 "), ("yank zlib \t", "yank zlib 1.0.0 "),
+                             ("resolve zlib --bud\t", "resolve zlib --budget "),
+                             ("resolve zlib@=1\t", "resolve zlib@=1.0.0 "),
+                             ("resolve zlib@^\t", "resolve zlib@^1.0.0 "), ("ex\t", "exit "),
                              ("check fol\t", "check folder/"), ("show none\t", "show none")):
             with self.subTest(typed), self.terminal() as shell:
                 shell.type(typed + "|")
@@ -169,7 +181,8 @@ class Typed(Folder):
             shell.end()
         path = self.path("state/registry/history")
         self.assertEqual(self.text("state/registry/history").splitlines(), ["publish log 1.0.0", "list"])
-        self.assertEqual((stat.S_IMODE(os.stat(path).st_mode), stat.S_IMODE(os.stat(os.path.dirname(path)).st_mode)), (0o600, 0o700))
+        self.assertEqual((stat.S_IMODE(os.stat(path).st_mode), stat.S_IMODE(os.stat(os.path.dirname(path)).st_mode)),
+                         (0o600, 0o700))
         with self.terminal() as shell:
             shell.type("\x1b[A\x1b[A")
             self.assertTrue(shell.read("publish log 1.0.0").endswith(""))
@@ -250,32 +263,40 @@ class Piped(Folder):
         return self.registry("shell", given="".join(line + "\n" for line in lines))
 
     def test_lines(self):
-        status, said, noted = self.shell("publish log 1.0.0", "", "# a remark", 'publish app 1.0.0 "log@>=1, <2" # another', "  list  ", "resolve app --json")
+        status, said, noted = self.shell("publish log 1.0.0", "", "# a remark",
+                                         'publish app 1.0.0 "log@>=1, <2" # another', "  list  ", "resolve app --json")
         self.assertEqual((status, noted), (0, ""))
-        self.assertEqual(said, "published log 1.0.0 (revision 1)\npublished app 1.0.0 (revision 2)\napp  1.0.0  1 version\nlog  1.0.0  1 version\n"
+        self.assertEqual(said, "published log 1.0.0 (revision 1)\npublished app 1.0.0 (revision 2)\napp  1.0.0  1 "
+                               "version\nlog  1.0.0  1 version\n"
                                '{"revision":2,"selected":[["app","1.0.0"],["log","1.0.0"]]}\n')
         self.assertEqual(self.text("registry.journal").splitlines()[-1], "end 2")
 
     def test_the_status_is_that_of_the_last_command(self):
         self.hold(publish("log", "1.0.0"), yank("log", "1.0.0"))
-        for lines, status in (([], 0), (["# nothing", ""], 0), (["list"], 0), (["yank log 1.0.0"], 1), (["yank log 1.0.0", "list"], 0), (["lits"], 2), (["show 'log"], 2),
-                              (["check none.lines"], 3), (["yank log 1.0.0", "exit", "list"], 1), (["lits", "quit"], 2), (["shell"], 2), (["help yank"], 0),
+        for lines, status in (([], 0), (["# nothing", ""], 0), (["list"], 0), (["yank log 1.0.0"], 1),
+                              (["yank log 1.0.0", "list"], 0), (["lits"], 2), (["show 'log"], 2),
+                              (["check none.lines"], 3), (["yank log 1.0.0", "exit", "list"], 1), (["lits", "quit"], 2),
+                              (["shell"], 2), (["help yank"], 0),
                               (["resolve log"], 1), (["list --depth"], 2)):
             with self.subTest(lines):
                 self.assertEqual(self.shell(*lines)[0], status)
 
     def test_what_is_printed_before_a_refusal_comes_first(self):
         with tempfile.TemporaryFile() as out:
-            subprocess.run([COMMAND, "shell", "--journal", self.journal], input=b"publish a 1.0.0\nyank a 2.0.0\nlist\n", stdout=out, stderr=out,
+            subprocess.run([COMMAND, "shell", "--journal", self.journal],
+                           input=b"publish a 1.0.0\nyank a 2.0.0\nlist\n", stdout=out, stderr=out,
                            env={**os.environ, "REGISTRY_PROGRAM": PROGRAM}, timeout=SECONDS)
             out.seek(0)
-            self.assertEqual(out.read().decode(), "published a 1.0.0 (revision 1)\nregistry: a 2.0.0 is not published; there is 1.0.0\na  1.0.0  1 version\n")
+            self.assertEqual(out.read().decode(), "published a 1.0.0 (revision 1)\nregistry: a 2.0.0 is not published; "
+                                                  "there is 1.0.0\na  1.0.0  1 version\n")
 
     def test_many_commands_ask_one_session(self):
         """The program is begun once: a program in its place counts."""
-        count, wrapper = self.path("count"), self.path("wrapper", f'#!/bin/sh\necho >> "{self.path("count")}"\nexec "{PROGRAM}" "$@"\n')
+        count = self.path("count")
+        wrapper = self.path("wrapper", f'#!/bin/sh\necho >> "{count}"\nexec "{PROGRAM}" "$@"\n')
         os.chmod(wrapper, 0o755)
-        lines = [f"publish p{number} 1.0.0" for number in range(20)] + ["list", "show p1", "resolve p2", "search p", "tree p3", "why p4"]
+        lines = [*(f"publish p{number} 1.0.0" for number in range(20)),
+                 "list", "show p1", "resolve p2", "search p", "tree p3", "why p4"]
         status, _, noted = self.registry("shell", given="\n".join(lines), REGISTRY_PROGRAM=wrapper)
         self.assertEqual((status, noted, len(self.text(os.path.basename(count)))), (0, "", 1))
 
@@ -289,19 +310,19 @@ class Piped(Folder):
                 next(session.each([{"op": "yank", "name": "log", "version": "2.0.0"}, *[{"op": "list"}] * 3]))
                 raise Refused("log 2.0.0 is not published")
             with standing.lent(self.journal) as session:
-                self.assertEqual(session.ask({"op": "yank", "name": "log", "version": "1.0.0"}), [{"ok": True, "revision": 2}])
+                self.assertEqual(session.ask({"op": "yank", "name": "log", "version": "1.0.0"}),
+                                 [{"ok": True, "revision": 2}])
                 self.assertEqual(len(session.commands()), 2)
 
     def test_each_subcommand_that_reads_or_writes(self):
         """What each prints in a shell is what it prints alone."""
         self.hold(publish("log", "1.0.0"), publish("log", "1.1.0"), publish("app", "1.0.0", ["log ^1"]))
         lock = self.path("app.lock", '[["app","1.0.0"],["log","1.0.0"]]')
-        lines = ["list", "show log", "search lo", "resolve app", "resolve app log@^2", "tree app", "why app log@^2", f"outdated app --lock {lock}",
-                 f"upgrade --need app --lock {lock}", f"diff {lock} {lock}", "resolve nobody", "publish app 1.0.0", "yank log 3.0.0"]
+        lines = ["list", "show log", "search lo", "resolve app", "resolve app log@^2", "tree app", "why app log@^2",
+                 f"outdated app --lock {lock}",
+                 f"upgrade --need app --lock {lock}", f"diff {lock} {lock}", "resolve nobody", "publish app 1.0.0",
+                 "yank log 3.0.0"]
         alone = [self.registry(*line.split()) for line in lines]
         status, said, noted = self.shell(*lines)
-        self.assertEqual((status, said, noted), (alone[-1][0], "".join(it[1] for it in alone), "".join(it[2] for it in alone)))
-
-
-if __name__ == "__main__":
-    unittest.main()
+        self.assertEqual((status, said, noted), (alone[-1][0], "".join(it[1] for it in alone),
+                                                 "".join(it[2] for it in alone)))

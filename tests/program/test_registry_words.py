@@ -1,5 +1,5 @@
-"""What all subcommands of `registry` have in common: the table of words with the help, the completions and the manual page that are
-made of it; exit statuses, colours, pipes and terminals; and what one loads to start."""
+"""What all subcommands of `registry` have in common: the table of words with the help, the completions and the manual
+page that are made of it; exit statuses, colours, pipes and terminals; and what one loads to start."""
 import importlib
 import os
 import re
@@ -19,20 +19,6 @@ from tests.support.program import PROGRAM, TOP, publish, skip_without, yank
 from tests.support.registry_folder import Folder, at_terminal, pigeons
 
 COMMAND = os.path.join(TOP, "registry")
-FAULTY = [
-    ([], None), (["--journal"], None), (["--json"], None), (["--journal", "x"], None),
-    (["publsh", "a", "1.0.0"], "there is no subcommand publsh; did you mean publish? See `registry --help`"),
-    (["frobnicate"], "there is no subcommand frobnicate: see `registry --help`"),
-    (["--jurnal", "x", "list"], "there is no option --jurnal before a subcommand: see `registry --help`"),
-    (["list", "--jurnal", "x"], "unrecognized arguments: --jurnal x; did you mean --journal? See `registry list --help`"),
-    (["list", "--jurnal=x"], "unrecognized arguments: --jurnal=x; did you mean --journal? See `registry list --help`"),
-    (["list", "--jou", "x"], "unrecognized arguments: --jou x: see `registry list --help`"),
-    (["import"], "import needs one of crates-io, cargo, debian: see `registry --help`"),
-    (["import", "npm", "x"], "import needs one of crates-io, cargo, debian, not npm: see `registry --help`"),
-    (["show"], "the following arguments are required: NAME: see `registry show --help`"),
-    (["resolve", "a", "--budget", "many"], "argument --budget: many is no number from 0 to 4294967295: see `registry resolve --help`"),
-    (["--completion", "tcsh"], "--completion takes one of bash, zsh, fish"), (["--completion"], "--completion takes one of bash, zsh, fish"),
-]
 
 
 def typed(*words, **more):
@@ -61,10 +47,12 @@ class Table(unittest.TestCase):
     def test_the_help_has_each_word_and_each_example(self):
         for it in table.SUBCOMMANDS:
             status, said, fault = registry(*it.name.split(" "), "--help")
-            self.assertEqual((status, fault, said.splitlines()[0][:len(it.name) + 16]), (0, "", f"usage: registry {it.name}"))
+            self.assertEqual((status, fault, said.splitlines()[0][:len(it.name) + 16]),
+                             (0, "", f"usage: registry {it.name}"))
             plain = " ".join(said.split())
             for word in (*it.words, *table.COMMON):
-                self.assertIn(" ".join([word.flag or word.names[0], *(word.names if word.flag and not word.many else [])]), plain)
+                self.assertIn(" ".join([word.flag or word.names[0],
+                                        *(word.names if word.flag and not word.many else [])]), plain)
                 self.assertIn(" ".join(word.about.split()), plain)
             for part in (it.summary, " ".join(it.more.split()), *it.examples):
                 self.assertIn(part, plain)
@@ -74,51 +62,12 @@ class Table(unittest.TestCase):
             status, said, fault = registry(*words)
             self.assertEqual((status, fault), (0, ""))
             for it in table.SUBCOMMANDS:
-                self.assertIn(f"\n  {it.name.ljust(max(len(each.name) for each in table.SUBCOMMANDS))}  {it.summary}\n", said)
-
-    def test_wrong_words(self):
-        for words, told in FAULTY:
-            status, said, fault = registry(*words)
-            self.assertEqual((status, said), (2, ""), words)
-            self.assertEqual(fault, registry("--help")[1] if told is None else f"registry: {told}\n")
-
-    def test_the_version_is_what_the_program_says(self):
-        with tempfile.TemporaryDirectory() as folder:
-            program = os.path.join(folder, "program")
-            with open(program, "w", encoding="ascii") as out:
-                out.write('#!/bin/sh\n[ "$*" = --version ] && echo registryd 9.9.9 && echo proved\n')
-            os.chmod(program, 0o755)
-            self.assertEqual(registry("--version", REGISTRY_PROGRAM=program), (0, "registryd 9.9.9\nproved\n", ""))
-        self.assertEqual(registry("--version", REGISTRY_PROGRAM="/bin/false"), (3, "", "registry: the program tells no version\n"))
+                self.assertIn(f"\n  {it.name.ljust(max(len(each.name) for each in table.SUBCOMMANDS))}  {it.summary}\n",
+                              said)
 
 
 class Completed(Folder):
     LINES = [publish("log", "1.0.0"), publish("log", "1.1.0"), publish("lock", "2.0.0"), publish("app", "1.0.0")]
-
-    def offered(self, *words):
-        """What is said of words of which the last one is being typed."""
-        status, said, fault = registry("--complete", *words, REGISTRY_JOURNAL=self.journal)
-        self.assertEqual((status, fault), (0, ""))
-        kind, *found = said.splitlines()
-        return found if kind == "words" else kind
-
-    def test_words_of_all_kinds(self):
-        self.hold(*self.LINES)
-        for words, wanted in ((["pub"], ["publish"]), (["import", ""], ["cargo", "crates-io", "debian"]), (["import", "c"], ["cargo", "crates-io"]),
-                              (["--j"], ["--journal", "--json"]), (["--journal", ""], "file"), (["--json", "unya"], ["unyank"]),
-                              (["show", "lo"], ["lock", "log"]), (["show", "log", ""], ["1.0.0", "1.1.0"]), (["show", "log", "1.0.0", ""], []), (["yank", "log", ""], ["1.0.0", "1.1.0"]),
-                              (["yank", "log", "1.1"], ["1.1.0"]), (["yank", "zebra", ""], []), (["publish", ""], ["app", "lock", "log"]),
-                              (["publish", "x", ""], []), (["publish", "x", "1.0.0", "lo"], ["lock", "log"]), (["publish", "x", "1.0.0", "log@*", "a"], ["app"]),
-                              (["resolve", "--l"], ["--lock", "--locked"]), (["resolve", "--lock", ""], "file"), (["resolve", "--lock", "x", "a"], ["app"]),
-                              (["diff", ""], "file"), (["diff", "a", ""], "file"), (["diff", "a", "b", ""], []), (["import", "cargo", ""], "folder"),
-                              (["import", "cargo", "x", "--index", ""], "folder"), (["import", "debian", ""], "file"), (["tree", "a", "--invert", "a"], ["app"]),
-                              (["why", "app", "--not", "l"], ["lock", "log"]), (["why", "app", "--not", "log", "1.0"], ["1.0.0"]),
-                              (["why", "app", "--not", "log", "1.0.0", "a"], ["app"]), (["upgrade", "--need", "app", "l"], ["lock", "log"]), (["nonsense", ""], []), (["list", "--"], ["--color", "--connect", "--help", "--journal", "--json", "--quiet", "--verbose"])):
-            self.assertEqual(self.offered(*words), wanted, words)
-        self.assertTrue({"publish", "import", "--journal", "--help"} <= set(self.offered("")))
-
-    def test_where_there_is_no_journal(self):
-        self.assertEqual(self.offered("show", ""), [])
 
     def test_the_words_of_the_program_are_its_own(self):
         run = partial(subprocess.run, stdin=subprocess.DEVNULL, capture_output=True, timeout=60, check=False)
@@ -138,8 +87,10 @@ class Completed(Folder):
                     self.assertEqual((done.returncode, done.stderr), (0, b""), value)
 
     def shell(self, *words):
-        done = subprocess.run(words, cwd=self.folder, stdin=subprocess.DEVNULL, stdout=subprocess.PIPE, stderr=subprocess.PIPE, text=True, timeout=60,
-                              env={**os.environ, "REGISTRY_PROGRAM": PROGRAM, "REGISTRY_JOURNAL": self.journal, "PATH": TOP + os.pathsep + os.environ["PATH"]})
+        done = subprocess.run(words, cwd=self.folder, stdin=subprocess.DEVNULL, stdout=subprocess.PIPE,
+                              stderr=subprocess.PIPE, text=True, timeout=60,
+                              env={**os.environ, "REGISTRY_PROGRAM": PROGRAM, "REGISTRY_JOURNAL": self.journal,
+                                   "PATH": TOP + os.pathsep + os.environ["PATH"]})
         self.assertEqual((done.returncode, done.stderr), (0, ""), words)
         return done.stdout.splitlines()
 
@@ -152,7 +103,8 @@ class Completed(Folder):
         script = self.script("bash")
         self.hold(*self.LINES)
         self.path("app.lock", "[]")
-        for words, wanted in ((["sho"], ["show"]), (["show", "l"], ["lock", "log"]), (["show", "x"], [""]), (["diff", "app"], ["options: -o filenames", "app.lock"])):
+        for words, wanted in ((["sho"], ["show"]), (["show", "l"], ["lock", "log"]), (["show", "x"], [""]),
+                              (["diff", "app"], ["options: -o filenames", "app.lock"])):
             self.assertEqual(self.shell("bash", "--norc", "-c", call, "bash", script, "registry", *words), wanted)
         words = ["registryd", "serve", "--workers", "=", "6"]
         self.assertEqual(self.shell("bash", "--norc", "-c", call, "bash", script, *words), ["64"])
@@ -161,10 +113,12 @@ class Completed(Folder):
 
     @skip_without("zsh", "zsh")
     def test_zsh(self):
-        call = ("compdef() { echo told: $@ }; _files() { echo files: $@ }; compadd() { print -rl -- ${@:2} }; . $1; shift; words=(\"$@\") CURRENT=$#words; _registry")
+        call = ("compdef() { echo told: $@ }; _files() { echo files: $@ }; compadd() { print -rl -- ${@:2} }; . $1; "
+                "shift; words=(\"$@\") CURRENT=$#words; _registry")
         script = self.script("zsh")
         self.hold(*self.LINES)
-        for words, wanted in ((["sho"], ["show"]), (["show", "l"], ["lock", "log"]), (["diff", "app"], ["files:"]), (["import", "cargo", ""], ["files: -/"])):
+        for words, wanted in ((["sho"], ["show"]), (["show", "l"], ["lock", "log"]), (["diff", "app"], ["files:"]),
+                              (["import", "cargo", ""], ["files: -/"])):
             self.assertEqual(self.shell("zsh", "-f", "-c", call, "zsh", script, "registry", *words),
                              ["told: _registry registry registryd", *wanted])
         words = ["registryd", "serve", "--workers", "6"]
@@ -178,7 +132,8 @@ class Completed(Folder):
                              ("registry yank log 1.1", ["1.1.0"]),
                              ("registryd serve --workers 6", ["64"]), ("registryd serve --workers=6", ["--workers=64"]),
                              ("registryd race reg", ["registry.journal"])):
-            self.assertEqual(sorted(self.shell("fish", "--no-config", "-c", f"source {script}; complete -C '{line}'")), wanted)
+            self.assertEqual(sorted(self.shell("fish", "--no-config", "-c", f"source {script}; complete -C '{line}'")),
+                             wanted)
 
 
 class Manual(unittest.TestCase):
@@ -200,49 +155,17 @@ class Manual(unittest.TestCase):
             path = os.path.join(folder, "registry.1")
             with open(path, "w", encoding="ascii") as out:
                 out.write(registry("--manual")[1])
-            done = subprocess.run(["man", "--warnings", "-E", "UTF-8", "-l", path], stdout=subprocess.PIPE, stderr=subprocess.PIPE,
+            done = subprocess.run(["man", "--warnings", "-E", "UTF-8", "-l", path], stdout=subprocess.PIPE,
+                                  stderr=subprocess.PIPE,
                                   env={**os.environ, "MANWIDTH": "100", "LC_ALL": "C.UTF-8"}, check=True, timeout=60)
         self.assertEqual(done.stderr, b"")
         shown = done.stdout.decode()
-        for text in ("registry resolve app@^1 zlib", "EXIT STATUS", "--not NAME VERSION", "REGISTRY_JOURNAL", "~/mine --index ~/.cargo/registry"):
+        for text in ("registry resolve app@^1 zlib", "EXIT STATUS", "--not NAME VERSION", "REGISTRY_JOURNAL",
+                     "~/mine --index ~/.cargo/registry"):
             self.assertIn(text, shown)
 
 
 class Ends(Folder):
-    def test_a_reader_that_has_enough(self):
-        self.hold(*(publish(f"package-{number}", "1.0.0") for number in range(3000)))
-        done = subprocess.run(f"{COMMAND} list --journal {self.journal} | head -n 1; exit ${{PIPESTATUS[0]}}", shell=True, executable="/bin/bash",
-                              env={**os.environ, "REGISTRY_PROGRAM": PROGRAM}, stdout=subprocess.PIPE, stderr=subprocess.PIPE)
-        self.assertEqual((done.returncode, done.stdout, done.stderr), (141, b"package-0     1.0.0  1 version\n", b""))
-
-    def test_an_output_that_takes_nothing(self):
-        self.hold(publish("a", "1.0.0"))
-        for words, unbuffered in ((["list", "--journal", self.journal], ""), (["list", "--journal", self.journal], "1"), (["--manual"], "")):
-            with open("/dev/full", "w", encoding="ascii") as full:
-                done = typed(*words, stdout=full, env={"PYTHONUNBUFFERED": unbuffered})
-            self.assertEqual((done.returncode, done.stderr), (3, b"registry: standard output: No space left on device\n"))
-        for closed in (">&-", "2>&-", "<&-", ">&- 2>&- <&-"):
-            done = subprocess.run(f"{COMMAND} list --journal {self.journal} {closed}", shell=True, env={**os.environ, "REGISTRY_PROGRAM": PROGRAM}, stdout=subprocess.PIPE,
-                                  stderr=subprocess.PIPE)
-            self.assertEqual((done.returncode, done.stdout, done.stderr), (0, b"" if closed[:2] == ">&" else b"a  1.0.0  1 version\n", b""), closed)
-
-    def test_a_file_is_judged_where_standard_input_is_closed(self):
-        lines = self.path("lines")
-        with open(lines, "w", encoding="utf-8") as file:
-            file.write(publish("a", "1.0.0") + "\n")
-        done = subprocess.run(f"{COMMAND} check {lines} <&-", shell=True, stdout=subprocess.PIPE, stderr=subprocess.PIPE)
-        self.assertEqual((done.returncode, done.stdout), (0, b""))
-        self.assertEqual(done.stderr.decode(), f"registry: {lines}: 1 line, and no errors\n")
-
-    def test_where_python_looks_beside_no_file(self):
-        self.hold(publish("a", "1.0.0"))
-        done = typed("list", "--journal", self.journal, stdout=subprocess.PIPE, env={"PYTHONSAFEPATH": "1"})
-        self.assertEqual((done.returncode, done.stdout), (0, b"a  1.0.0  1 version\n"))
-
-    def test_a_word_that_is_no_text(self):
-        done = typed("show", b"\xff")
-        self.assertEqual((done.returncode, done.stdout, done.stderr), (2, b"", b"registry: word 2 is not UTF-8\n"))
-
     def test_a_key_that_interrupts_a_long_search(self):
         # the program ends with it
         lines, needs = pigeons(14)
@@ -250,7 +173,8 @@ class Ends(Folder):
         words = [COMMAND, "resolve", *needs, "--journal", self.journal]
         for sent, status in ((signal.SIGINT, 130), (signal.SIGTERM, 143), (signal.SIGKILL, -signal.SIGKILL)):
             # a shell that runs these tests behind others may have it pass over the key
-            with subprocess.Popen(words, env={**os.environ, "REGISTRY_PROGRAM": PROGRAM}, stdout=subprocess.PIPE, stderr=subprocess.PIPE,
+            with subprocess.Popen(words, env={**os.environ, "REGISTRY_PROGRAM": PROGRAM}, stdout=subprocess.PIPE,
+                                  stderr=subprocess.PIPE,
                                   preexec_fn=lambda: signal.signal(signal.SIGINT, signal.SIG_DFL)) as running:
                 try:
                     child = child_of(running.pid)
@@ -260,14 +184,6 @@ class Ends(Folder):
                     running.kill()
             self.assertEqual((running.returncode, *said), (status, b"", b""))
             self.assertTrue(is_gone(child), sent)
-
-    def test_through_a_link_and_from_another_folder(self):
-        self.hold(publish("a", "1.0.0"))
-        link = self.path("link")
-        os.symlink(COMMAND, link)
-        for words, folder in (([link], "/"), (["./link"], self.folder), ([os.path.relpath(COMMAND, self.folder)], self.folder)):
-            done = subprocess.run([*words, "list", "--journal", self.journal], cwd=folder, env={**os.environ, "REGISTRY_PROGRAM": PROGRAM}, stdout=subprocess.PIPE)
-            self.assertEqual((done.returncode, done.stdout), (0, b"a  1.0.0  1 version\n"))
 
     def test_the_program_of_the_path(self):
         # a command that has no program beside it takes the one of the path
@@ -279,10 +195,13 @@ class Ends(Folder):
         os.mkdir(self.path("bin"))
         # and nothing else of the path, where a test of the package may have installed the program
         os.symlink(sys.executable, self.path("bin/python3"))
-        environment = {**{name: value for name, value in os.environ.items() if name != "REGISTRY_PROGRAM"}, "PATH": self.path("bin")}
+        environment = {**{name: value for name, value in os.environ.items() if name != "REGISTRY_PROGRAM"},
+                       "PATH": self.path("bin")}
         words = [self.path("away/registry"), "publish", "a", "1.0.0", "--journal", self.journal]
         done = subprocess.run(words, env=environment, stdout=subprocess.PIPE, stderr=subprocess.PIPE)
-        self.assertEqual((done.returncode, done.stderr), (3, b"registry: the program registryd is not found: put it on the path, or name it by REGISTRY_PROGRAM\n"))
+        self.assertEqual((done.returncode, done.stderr),
+                         (3, b"registry: the program registryd is not found: put it on the path, or name it by "
+                             b"REGISTRY_PROGRAM\n"))
         os.symlink(PROGRAM, self.path("bin/registryd"))
         done = subprocess.run(words, env=environment, stdout=subprocess.PIPE)
         self.assertEqual((done.returncode, done.stdout), (0, b"published a 1.0.0 (revision 1)\n"))
@@ -296,44 +215,44 @@ class Shown(Folder):
         plain = "a\r\n  1.1.0\r\n  1.0.0  yanked\r\n1.1.0 needs nothing\r\nneeded by nothing\r\n"
         given = {"REGISTRY_PROGRAM": PROGRAM, "NO_COLOR": ""}
         status, shown = at_terminal(words, given)
-        self.assertEqual((status, shown), (0, "\x1b[1ma\x1b[0m\r\n  1.1.0\r\n  1.0.0\x1b[33m  yanked\x1b[0m\r\n\x1b[1m1.1.0 needs\x1b[0m nothing\r\n"
+        self.assertEqual((status, shown), (0, "\x1b[1ma\x1b[0m\r\n  1.1.0\r\n  1.0.0\x1b[33m  yanked\x1b[0m\r\n"
+                                              "\x1b[1m1.1.0 needs\x1b[0m nothing\r\n"
                                               "\x1b[1mneeded by\x1b[0m nothing\r\n"))
         for more in ({"NO_COLOR": "1"}, {"TERM": "dumb"}):
             self.assertEqual(at_terminal(words, {**given, **more}), (0, plain))
         self.assertEqual(at_terminal([*words, "--json"], given)[1].count("\x1b"), 0)
         self.assertEqual(typed("show", "a", "--journal", self.journal).stdout.decode(), plain.replace("\r", ""))
 
-    def test_a_tree_in_letters_that_standard_output_has(self):
-        self.hold(publish("a", "1.0.0", ["b *", "c *"]), publish("b", "1.0.0", ["d *"]), publish("c", "1.0.0"), publish("d", "1.0.0"))
-        done = typed("tree", "a", "--journal", self.journal, env={"PYTHONIOENCODING": "ascii"})
-        self.assertEqual((done.returncode, done.stdout), (0, b"a 1.0.0\n|-- b 1.0.0\n|   `-- d 1.0.0\n`-- c 1.0.0\n"))
-
 
 class Loaded(Folder):
     """How long a subcommand takes to start hangs on what it loads."""
 
-    LOOK = "import runpy, sys\ntry:\n    runpy.run_path(sys.argv.pop(1), run_name='__main__')\nfinally:\n    print(*sys.modules, file=sys.stderr)\n"
+    LOOK = ("import runpy, sys\ntry:\n    runpy.run_path(sys.argv.pop(1), run_name='__main__')\n"
+            "finally:\n    print(*sys.modules, file=sys.stderr)\n")
 
     def loaded(self, *words):
         """The modules that a command line loads."""
-        done = subprocess.run([sys.executable, "-S", "-c", self.LOOK, COMMAND, *words, "--journal", self.journal], stdin=subprocess.DEVNULL,
-                              stdout=subprocess.DEVNULL, stderr=subprocess.PIPE, env={**os.environ, "REGISTRY_PROGRAM": PROGRAM, "PYTHONPATH": TOP})
+        done = subprocess.run([sys.executable, "-S", "-c", self.LOOK, COMMAND, *words, "--journal", self.journal],
+                              stdin=subprocess.DEVNULL,
+                              stdout=subprocess.DEVNULL, stderr=subprocess.PIPE,
+                              env={**os.environ, "REGISTRY_PROGRAM": PROGRAM, "PYTHONPATH": TOP})
         return set(done.stderr.decode().split())
 
     def test_a_subcommand_loads_what_it_needs(self):
         self.hold(publish("a", "1.0.0"))
         lock = self.path("registry.lock", '[["a","1.0.0"]]')
         self.path("registry.needs", "a\n")
-        for words, needed in ((["list"], {"listing"}), (["show", "a"], {"show"}), (["resolve", "a"], {"resolve"}), (["tree", "a"], {"tree"}), (["unyank", "a", "1.0.0"], {"yank"}),
-                              (["outdated", "--lock", lock], {"outdated"}), (["upgrade", "--lock", lock], {"upgrade"}), (["diff", lock, lock], {"diff"})):
+        for words, needed in ((["list"], {"listing"}), (["show", "a"], {"show"}), (["resolve", "a"], {"resolve"}),
+                              (["tree", "a"], {"tree"}), (["unyank", "a", "1.0.0"], {"yank"}),
+                              (["outdated", "--lock", lock], {"outdated"}), (["upgrade", "--lock", lock], {"upgrade"}),
+                              (["diff", lock, lock], {"diff"})):
             found = self.loaded(*words)
             self.assertEqual({it.split(".")[2] for it in found if it.startswith("registry_cli.commands.")}, needed)
-            self.assertFalse({"registry_cli.drawing", "registry_cli.indexes.index", "registry_cli.completion", "registry_cli.manual", "dataclasses", "inspect", "tomllib"} & found, words)
+            self.assertFalse({"registry_cli.drawing", "registry_cli.indexes.index", "registry_cli.completion",
+                              "registry_cli.manual", "dataclasses", "inspect", "tomllib"} & found, words)
             if words[0] in ("list", "show", "resolve", "tree"):
-                self.assertFalse({"argparse", "registry_cli.parsing", "registry_cli.waiting", "tempfile"} & found, words)
+                self.assertFalse({"argparse", "registry_cli.parsing", "registry_cli.waiting", "tempfile"} & found,
+                                 words)
             if words[0] != "outdated":
-                self.assertFalse({"registry_cli.cases", "registry_cli.telling", "registry_cli.derivation"} & found, words)
-
-
-if __name__ == "__main__":
-    unittest.main()
+                self.assertFalse({"registry_cli.cases", "registry_cli.telling", "registry_cli.derivation"} & found,
+                                 words)

@@ -1,6 +1,6 @@
-"""Random sessions in which publications, yanks and locks follow requests that led to something that was learnt: each reply
-against a plain search, and the same requests once more in another order. No reply may differ but by which lawful selection
-or derivation it is, also where what was learnt no longer stands."""
+"""Random sessions in which publications, yanks and locks follow requests that led to something that was learnt: each
+reply against a plain search, and the same requests once more in another order. No reply may differ but by which lawful
+selection or derivation it is, also where what was learnt no longer stands."""
 import functools
 import json
 import os
@@ -22,7 +22,8 @@ SEEDS = 30
 
 
 class Session:
-    """Stages, each of some commands and then of the session's requests, with the selections that may be answered there."""
+    """Stages, each of some commands and then of the session's requests, with the selections that may be answered
+    there."""
 
     def __init__(self, seed):
         self.rng, self.published = random.Random(seed), Published()
@@ -44,7 +45,8 @@ class Session:
         return made
 
     def stage(self, count):
-        """Some commands, and the requests after them, each with what may be answered and whether that is the preferred one."""
+        """Some commands, and the requests after them, each with what may be answered and whether that is the preferred
+        one."""
         made = [it for it in (self.command() for _ in range(count)) if it]
         return made, list(map(self.judged, self.requests))
 
@@ -55,12 +57,14 @@ class Session:
         return request, [preferred] if is_preferred else lawful, is_preferred
 
     def command(self):
-        """A command that is accepted, and is carried out, or none: mostly a publication, which may end what was learnt."""
+        """A command that is accepted, and is carried out, or none: mostly a publication, which may end what was
+        learnt."""
         name, version = self.rng.choice(NAMES), self.version()
         held = {row[0]: row[2] for row in self.published.versions.get(name, [])}
         if version not in held:
             others = [other for other in NAMES if other != name]
-            made = {"op": "publish", "name": name, "version": version, "needs": self.needs(others, self.rng.choice([0, 1, 1, 2]))}
+            made = {"op": "publish", "name": name, "version": version,
+                    "needs": self.needs(others, self.rng.choice([0, 1, 1, 2]))}
         elif self.rng.random() < 0.5:
             made = {"op": "unyank" if held[version] else "yank", "name": name, "version": version}
         else:
@@ -134,8 +138,8 @@ class Reuse(unittest.TestCase):
             self.assertEqual(status, 0, f"{told}: {printed}")
 
     def test_files_of_a_race_serve_one_another(self):
-        """Each file has some of a session's commands, and all of its requests. Each reply is judged at its revision of the
-        journal that all files share."""
+        """Each file has some of a session's commands, and all of its requests. Each reply is judged at its revision of
+        the journal that all files share."""
         answered = 0
         for seed in range(SEEDS // 3):
             files = dealt(session_of(seed).asked(0), random.Random(seed))
@@ -145,7 +149,8 @@ class Reuse(unittest.TestCase):
                 told, replies = f"seed {seed}", list(map(json.loads, texts))
                 for request, reply in zip(asked, replies):
                     if request["op"] == "resolve":
-                        self.lawful(request, places.answers(request, reply["revision"]), reply, f"{told}: {request} answered {reply}")
+                        self.lawful(request, places.answers(request, reply["revision"]), reply,
+                                    f"{told}: {request} answered {reply}")
                         answered += 1
                 status, said = said_of(asked, replies, journal)
                 self.assertEqual(status, 0, f"{told}: {said}")
@@ -157,7 +162,8 @@ class Reuse(unittest.TestCase):
         for seed in range(SEEDS):
             groups = [around(line) for line in session_of(seed).asked(0)]
             # a listing between them, since lines that are answered together spare each other nothing
-            replies = iter(list(map(json.loads, serve([it for line in lines_of(sum(groups, [])) for it in (line, LIST)])[::2])))
+            replies = iter(list(map(json.loads,
+                                    serve([it for line in lines_of(sum(groups, [])) for it in (line, LIST)])[::2])))
             for group in groups:
                 told = [next(replies) for _ in group]
                 for (request, lawful, is_preferred), reply in zip(group, told):
@@ -232,18 +238,15 @@ def raced(files):
 
 class Sessions(unittest.TestCase):
     def test_what_a_publication_ends_is_asked_for(self):
-        """Many requests are searched for selections none of which was lawful at the stage before, so that a store that keeps
-        what no longer stands would show."""
+        """Many requests are searched for selections none of which was lawful at the stage before, so that a store that
+        keeps what no longer stands would show."""
         newly = 0
         for seed in range(SEEDS):
             before = {}
             for _, asked in session_of(seed).stages:
                 for request, lawful, is_preferred in asked:
                     text = json.dumps(request)
-                    newly += not is_preferred and any(lawful) and not any(it in before.get(text, lawful) for it in lawful)
+                    was_before = any(it in before.get(text, lawful) for it in lawful)
+                    newly += not is_preferred and any(lawful) and not was_before
                     before[text] = lawful
         self.assertGreater(newly, 30)
-
-
-if __name__ == "__main__":
-    unittest.main()

@@ -1,9 +1,9 @@
-"""The file that `--save` names: its link, mode and owner, two sessions at once, and each call that fails or kills the session."""
+"""The file that `--save` names: its link, mode and owner, two sessions at once, and each call that fails or kills the
+session."""
 import fcntl
 import os
 import stat
 import subprocess
-import unittest
 
 from tests.program.test_journals import CHAIN, Sessions, journal
 from tests.support.durable_sessions import Client, Watched
@@ -44,7 +44,7 @@ class Saved(Sessions):
 class Places(Saved):
     def test_the_target_of_a_link_is_replaced(self):
         os.mkdir(os.path.join(self.folder, "there"))
-        target, link, second = (os.path.join(self.folder, *names) for names in (("there", "target"), ("link",), ("second",)))
+        target, link, second = (os.path.join(self.folder, name) for name in ("there/target", "link", "second"))
         os.symlink(os.path.join("there", "target"), link)
         os.symlink(link, second)
         for path in (second, link, second):
@@ -52,7 +52,8 @@ class Places(Saved):
             self.assertEqual((os.readlink(link), os.readlink(second)), (os.path.join("there", "target"), link))
             self.assertEqual(self.read(target), NEW)
             self.write(target, OLD)
-        self.assertEqual((self.beside(), os.listdir(os.path.join(self.folder, "there"))), (["link", "second", "there"], ["target"]))
+        self.assertEqual((self.beside(), os.listdir(os.path.join(self.folder, "there"))),
+                         (["link", "second", "there"], ["target"]))
 
     def test_what_a_link_leads_to_is_made(self):
         link, target = os.path.join(self.folder, "link"), os.path.join(self.folder, "none")
@@ -69,7 +70,8 @@ class Places(Saved):
             before = os.stat(self.saved)
             self.saves()
             after = os.stat(self.saved)
-            self.assertEqual((after.st_mode, after.st_uid, after.st_gid), (before.st_mode, before.st_uid, before.st_gid))
+            self.assertEqual((after.st_mode, after.st_uid, after.st_gid),
+                             (before.st_mode, before.st_uid, before.st_gid))
             self.assertNotEqual(after.st_ino, before.st_ino)
             self.assertEqual(self.left(), NEW)
 
@@ -90,7 +92,8 @@ class Places(Saved):
                 with open(self.saved, "ab" if append else "wb") as out:
                     done = run([*SERVE, "--save", path], GIVEN, stdout=out)
                 self.assertEqual((done.returncode, done.stderr), (0, b""))
-                self.assertEqual((self.left(), self.beside()), ((OLD if append else b"") + REPLIES + NEW, ["saved", "stdout"]))
+                self.assertEqual((self.left(), self.beside()),
+                                 ((OLD if append else b"") + REPLIES + NEW, ["saved", "stdout"]))
         self.assertEqual(os.readlink(link), "/proc/self/fd/1")
 
     def test_other_files_that_are_written_themselves(self):
@@ -111,7 +114,8 @@ class Places(Saved):
         self.begin(True)
         for closed, told in (("<&-", b"registryd: input failed\n"), (">&-", FAILED)):
             for option, file in (("--save", self.saved), ("--journal", kept)):
-                done = subprocess.run(["sh", "-c", f'printf "%s\\n" \'{line}\' | {{ "$0" serve --workers 1 {option} {file} {closed}; }}', PROGRAM],
+                done = subprocess.run(["sh", "-c", f'printf "%s\\n" \'{line}\' | {{ "$0" serve --workers 1 {option} '
+                                                   f'{file} {closed}; }}', PROGRAM],
                                       stdout=subprocess.PIPE, stderr=subprocess.PIPE, timeout=60)
                 self.assertEqual((done.returncode, done.stdout, done.stderr), (1, b"", told), (closed, option))
         # a command that was accepted is kept, though it could not be told
@@ -138,8 +142,8 @@ class Places(Saved):
 
 class Several(Saved):
     def test_two_at_once(self):
-        """Whatever the order of their steps, one of several that run side by side saves, the others are told that they don't, and
-        the file is the whole journal of that one."""
+        """Whatever the order of their steps, one of several that run side by side saves, the others are told that they
+        don't, and the file is the whole journal of that one."""
         refused = 0
         for number in range(60):
             self.begin(number % 2)
@@ -169,7 +173,8 @@ class Several(Saved):
         self.begin(True)
         first = self.held()
         for words, told in ((["--save", self.saved], FAILED), (["--load", self.saved, "--save", self.saved], FAILED),
-                            (["--journal", self.saved], f"registryd: journal {self.saved}: in use by another session\n".encode())):
+                            (["--journal", self.saved],
+                             f"registryd: journal {self.saved}: in use by another session\n".encode())):
             done = run([*SERVE, *words], GIVEN)
             self.assertEqual((done.returncode, done.stdout, done.stderr), (1, b"", told), words)
         first.send(CHAIN)
@@ -198,7 +203,8 @@ class Several(Saved):
         self.write(self.loaded, OLD)
         with open(self.loaded, "rb") as file:
             fcntl.flock(file, fcntl.LOCK_EX)
-            self.assertEqual(self.session([LIST], self.loaded), ['{"packages":[["old",[["1.0.0",false]]]],"revision":1}'])
+            self.assertEqual(self.session([LIST], self.loaded),
+                             ['{"packages":[["old",[["1.0.0",false]]]],"revision":1}'])
 
 
 class Calls(Saved):
@@ -207,8 +213,10 @@ class Calls(Saved):
     def test_each_call_that_fails(self):
         failed = set()
         for is_there in (True, False):
-            for call, error in (("open", "EACCES"), *((look, "EIO") for look in self.LOOKS), ("flock", "ENOLCK"), ("write", "ENOSPC"), ("fsync", "EIO"), ("rename", "EXDEV"),
-                                ("link", "EIO"), ("unlink", "EIO"), ("fchmod", "EPERM"), ("fchown", "EPERM"), ("close", "EIO")):
+            for call, error in (("open", "EACCES"), *((look, "EIO") for look in self.LOOKS), ("flock", "ENOLCK"),
+                                ("write", "ENOSPC"), ("fsync", "EIO"), ("rename", "EXDEV"),
+                                ("link", "EIO"), ("unlink", "EIO"), ("fchmod", "EPERM"), ("fchown", "EPERM"),
+                                ("close", "EIO")):
                 for number in range(1, 30):
                     self.begin(is_there)
                     done, came = Break(call, number, error).run(self.breaking, [*SERVE, "--save", self.saved], GIVEN)
@@ -225,7 +233,8 @@ class Calls(Saved):
                     if call != "unlink":
                         self.assertEqual(self.beside(), [] if left is None else ["saved"], at)
         # these alone tell nothing: a link is tried first, an owner may not be given away, and what is closed was synced
-        self.assertEqual({call for _, call in failed}, {"open", *self.LOOKS, "flock", "write", "fsync", "rename", "unlink", "fchmod"})
+        self.assertEqual({call for _, call in failed}, {"open", *self.LOOKS, "flock", "write", "fsync", "rename",
+                                                        "unlink", "fchmod"})
 
     def watched(self, is_there, kill=0, side=""):
         """How a session that saves ended, and its calls."""
@@ -246,7 +255,8 @@ class Calls(Saved):
                     self.assertEqual(self.left(), NEW, at)
 
     def crash_fault(self, calls, is_there):
-        """What a crash may leave behind one of these calls that is not the whole file, and at the end not the new one."""
+        """What a crash may leave behind one of these calls that is not the whole file, and at the end not the new
+        one."""
         disk, old = Disk(self.folder, {"saved": OLD} if is_there else {}), OLD if is_there else None
         for number, call in enumerate(calls, 1):
             disk.follow(call)
@@ -265,7 +275,3 @@ class Calls(Saved):
             self.assertEqual(len(syncs), 2)
             for place, fault in zip(syncs, ("half of it", "the old one")):
                 self.assertRegex(self.crash_fault(calls[:place] + calls[place + 1:], is_there), fault)
-
-
-if __name__ == "__main__":
-    unittest.main()

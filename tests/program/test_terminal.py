@@ -15,7 +15,8 @@ def at_terminal(words, typed):
     """What the program leaves where standard input is a terminal at which this is typed."""
     person, terminal = pty.openpty()
     try:
-        with subprocess.Popen([PROGRAM, *words], stdin=terminal, stdout=subprocess.PIPE, stderr=subprocess.PIPE) as running:
+        with subprocess.Popen([PROGRAM, *words], stdin=terminal, stdout=subprocess.PIPE,
+                              stderr=subprocess.PIPE) as running:
             os.write(person, typed)
             told, said = running.communicate(timeout=100)
     finally:
@@ -54,7 +55,3 @@ class Terminal(unittest.TestCase):
     def test_no_program_is_told(self):
         done = run(SERVE, b'{"op":"list"}\n')
         self.assertEqual((done.returncode, done.stderr), (0, b""))
-
-
-if __name__ == "__main__":
-    unittest.main()

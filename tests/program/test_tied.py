@@ -24,8 +24,8 @@ PLACES, BIRDS = pigeons(15)
 LONG = resolve(*[f"{bird} *" for bird in BIRDS])  # a search that does not end in the time of a test
 # begins a program by these words, which tells of its processes, says once it is tied, each in one piece, and waits
 WAITS = "os.write(1, b'tied\\n'); time.sleep(600)"
-BEGIN = "import os, sys, time; from registry_cli import tied; held = tied.Tied(sys.argv[2:], process_group=int(sys.argv[1]) " \
-        f"if sys.argv[1] else None); {WAITS}"
+BEGIN = ("import os, sys, time; from registry_cli import tied; "
+         f"held = tied.Tied(sys.argv[2:], process_group=int(sys.argv[1]) if sys.argv[1] else None); {WAITS}")
 
 
 def begun(code, *words, **more):
@@ -64,7 +64,8 @@ class Tied(unittest.TestCase):
 
     def test_a_program_that_is_begun_by_a_thread_outlives_the_thread(self):
         made = []
-        thread = threading.Thread(target=lambda: made.append(tied.Tied(["cat"], stdin=subprocess.PIPE, stdout=subprocess.PIPE)))
+        thread = threading.Thread(target=lambda: made.append(tied.Tied(["cat"], stdin=subprocess.PIPE,
+                                                                       stdout=subprocess.PIPE)))
         thread.start()
         thread.join()
         time.sleep(0.2)
@@ -91,7 +92,8 @@ class Tied(unittest.TestCase):
                 self.assertEqual(tied.run(["sh", "-c", TELL], stdout=subprocess.PIPE, text=True).stdout, f"{wanted}\n")
                 self.assertEqual(os.environ.get(NAME), given)
         # an environment that is given is taken as it is
-        self.assertEqual(tied.run(["sh", "-c", TELL], stdout=subprocess.PIPE, text=True, env=environment(None)).stdout, "none\n")
+        self.assertEqual(tied.run(["sh", "-c", TELL], stdout=subprocess.PIPE, text=True, env=environment(None)).stdout,
+                         "none\n")
 
     def test_whether_somebody_reads(self):
         for reader, writer in (os.pipe(), [it.detach() for it in socket.socketpair()]):
@@ -124,7 +126,8 @@ class Searches(unittest.TestCase):
         self.addCleanup(gate.close)
         founded = fronts.run("found", [gate.url], "--load", self.path)
         self.assertEqual((founded.returncode, founded.stderr), (0, b""))
-        running = subprocess.Popen(fronts.words("serve", [gate.url]), stdin=subprocess.PIPE, stdout=subprocess.PIPE, stderr=subprocess.PIPE,
+        running = subprocess.Popen(fronts.words("serve", [gate.url]), stdin=subprocess.PIPE, stdout=subprocess.PIPE,
+                                   stderr=subprocess.PIPE,
                                    preexec_fn=heed_signals)
         self.addCleanup(end, running)
         running.stdin.write(f"{resolve('hole-0 *')}\n{LONG}\n".encode())
@@ -161,7 +164,8 @@ class Searches(unittest.TestCase):
     def test_commands_that_run_the_program(self):
         for words in (["resolve", *BIRDS], ["why", *BIRDS]):
             command = [os.path.join(TOP, "registry"), *words, "--journal", self.path]
-            with subprocess.Popen(command, env={**os.environ, "REGISTRY_PROGRAM": PROGRAM}, stdout=subprocess.PIPE) as tool:
+            with subprocess.Popen(command, env={**os.environ, "REGISTRY_PROGRAM": PROGRAM},
+                                  stdout=subprocess.PIPE) as tool:
                 child = child_of(tool.pid)
                 self.assertFalse(is_idle(child))
                 tool.kill()
@@ -183,7 +187,3 @@ def end(running):
     running.wait()
     for pipe in (running.stdin, running.stdout, running.stderr):
         pipe.close()
-
-
-if __name__ == "__main__":
-    unittest.main()

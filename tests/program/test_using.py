@@ -25,9 +25,6 @@ class Using(unittest.TestCase):
             self.assertTrue(any(code[at:at + len(wanted)] == wanted for at in range(len(code))), block)
 
     def test_the_example_prints_what_is_shown(self):
-        done = subprocess.run([PROBE, "team"], stdin=subprocess.DEVNULL, stdout=subprocess.PIPE, text=True, check=True, timeout=60)
+        done = subprocess.run([PROBE, "team"], stdin=subprocess.DEVNULL, stdout=subprocess.PIPE, text=True,
+                              check=True, timeout=60)
         self.assertEqual(done.stdout.split("\n"), [*blocks(PAGE)[-1], ""])
-
-
-if __name__ == "__main__":
-    unittest.main()

@@ -1,5 +1,5 @@
-"""Tables of command lines: `rows/words.rows` has words of all kinds, `rows/broken.rows` reads, writes and files that fail.
-`command_lines.py` says how they are written."""
+"""Tables of command lines: `rows/words.rows` has words of all kinds, `rows/broken.rows` reads, writes and files that
+fail. `command_lines.py` says how they are written."""
 import os
 import tempfile
 import unittest
@@ -84,7 +84,3 @@ class Words(unittest.TestCase):
         # nothing is shown: the reader of the command line takes texts
         done = run([b"\xff"])
         self.assertEqual((done.returncode, done.stdout, done.stderr), (2, b"", b"registryd: bad words\n"))
-
-
-if __name__ == "__main__":
-    unittest.main()

@@ -1,33 +1,36 @@
-"""`docs/lines.schema.json` against each line that these tests send and are answered. A request line is of the schema exactly
-where it is not answered 19, but for what a schema can't tell; and each reply and each line of a journal is of it.
+"""`docs/lines.schema.json` against each line that these tests send and are answered. A request line is of the schema
+exactly where it is not answered 19, but for what a schema can't tell; and each reply and line of a journal is of it.
 
-Each line of the tables is judged, and of the other sessions that `said.py` has noted one of each shape. This file runs last, so that
-they are noted by then; alone it judges the tables."""
+Each line of the tables is judged, and of the other sessions that `said.py` has noted one of each shape. This file runs
+last, so that they are noted by then; alone it judges the tables."""
 import json
 import unittest
 
 from registry_cli.check_derivation import NAME, ORDINALS, formed
 from registry_cli.limits import MOST_LINE_BYTES
 from tests.support import lines_schema, said
-from tests.support.lines_schema import KINDS, SAID, has_members
+from tests.support.lines_schema import KINDS, SAID
 from tests.support.plain_session import read_json
 from tests.support.tables import tables_under
 
 BAD_LINE, NO_MEMORY = 19, 18
-WITHOUT = "Python's jsonschema is not there, so only the members of the lines are judged (Debian: python3-jsonschema)"
+WITHOUT = "Python's jsonschema is not there (Debian: python3-jsonschema)"
 # What no line has, and the kind it is nearly of. Worked by hand from docs/FORMATS.md.
-WRONG = [
-    ("reply", {"ok": False, "revision": 1}), ("reply", {"ok": True}), ("reply", {"ok": True, "revision": -1}), ("reply", {"ok": True, "revision": "1"}),
-    ("reply", {"ok": True, "revision": 1, "place": 1}), ("reply", {"ok": True, "revision": 1, "seat": 1}), ("reply", {"ok": True, "place": 1, "revision": 1, "seat": 0}),
-    ("reply", {"error": 7, "name": "BadName", "revision": 0}), ("reply", {"error": 14, "name": "Stale", "revision": 0}), ("reply", {"error": 19, "revision": 0}),
-    ("reply", {"revision": 0, "selected": [["a"]]}), ("reply", {"revision": 0, "selected": [["a", "1"]]}), ("reply", {"revision": 0, "selected": [["A", "1.0.0"]]}),
-    ("reply", {"refused": False, "revision": 0}), ("reply", {"explanation": ["", ""], "refused": True, "revision": 0}),
-    ("reply", {"derivation": [], "explanation": ["", ""], "refused": True, "revision": 0}), ("reply", {"follows": 1, "revision": 0}),
-    ("reply", {"packages": [["a", []]], "revision": 0}), ("reply", {"packages": [["a", [["1.0.0"]]]], "revision": 0}), ("reply", {"op": "list"}),
-    ("journal", {"op": "list"}), ("journal", {"name": "A", "op": "yank", "version": "1.0.0"}), ("journal", {"name": "a", "op": "yank", "version": "1.0"}),
-    ("journal", {"name": "a", "needs": [["b", ""]], "op": "publish", "version": "1.0.0"}), ("journal", {"derivation": [], "op": "learn"}),
-    ("journal", {"derivation": [{"causes": [{"fact": "root"}, {"line": 1}], "conclusion": [], "pivot": "a"}], "op": "learn"}),
-]
+WRONG = {
+    "reply": """
+        {"ok":false,"revision":1}   {"ok":true}   {"ok":true,"revision":-1}   {"ok":true,"revision":"1"}
+        {"ok":true,"revision":1,"place":1}   {"ok":true,"revision":1,"seat":1}
+        {"ok":true,"place":1,"revision":1,"seat":0} {"error":7,"name":"BadName","revision":0}
+        {"error":14,"name":"Stale","revision":0}   {"error":19,"revision":0} {"revision":0,"selected":[["a"]]}
+        {"revision":0,"selected":[["a","1"]]}   {"revision":0,"selected":[["A","1.0.0"]]} {"refused":false,"revision":0}
+        {"explanation":["",""],"refused":true,"revision":0}
+        {"derivation":[],"explanation":["",""],"refused":true,"revision":0}   {"follows":1,"revision":0}
+        {"packages":[["a",[]]],"revision":0}   {"packages":[["a",[["1.0.0"]]]],"revision":0}   {"op":"list"}""",
+    "journal": """
+        {"op":"list"}   {"name":"A","op":"yank","version":"1.0.0"}   {"name":"a","op":"yank","version":"1.0"}
+        {"name":"a","needs":[["b",""]],"op":"publish","version":"1.0.0"}   {"derivation":[],"op":"learn"}
+        {"derivation":[{"causes":[{"fact":"root"},{"line":1}],"conclusion":[],"pivot":"a"}],"op":"learn"}""",
+}
 
 
 def references(value):
@@ -49,8 +52,8 @@ def is_all_rising(value):
 
 
 def shape(value, name=""):
-    """What values have in common that a schema may take for one another: the members, and what is in them; of a text whether it
-    is a package's name, of a number whether it is small, of a long list what is in it."""
+    """What values have in common that a schema may take for one another: the members, and what is in them; of a text
+    whether it is a package's name, of a number whether it is small, of a long list what is in it."""
     if isinstance(value, dict):
         return frozenset((name, shape(it, name)) for name, it in value.items())
     if isinstance(value, list):
@@ -61,14 +64,16 @@ def shape(value, name=""):
 
 
 def judgeable(requests, replies, kept):
-    """Lines whose form decides, with the kinds that they are of; and the request lines that are of none. A line is left out that
-    is no JSON, or too long, or was answered that there is no memory."""
-    read = [(line, read_json(line), number) for line, number in requests if len(line) <= MOST_LINE_BYTES and number != NO_MEMORY]
+    """Lines whose form decides, with the kinds that they are of; and the request lines that are of none. A line is left
+    out that is no JSON, or too long, or was answered that there is no memory."""
+    read = [(line, read_json(line), number) for line, number in requests if len(line) <= MOST_LINE_BYTES
+            and number != NO_MEMORY]
     good = [("request", value) for _, value, number in read if number != BAD_LINE]
     good += [(kind, json.loads(line)) for kind, lines in (("reply", replies), ("journal", kept)) for line in lines]
     return good, [(line, value) for line, value, number in read if number == BAD_LINE and value is not None]
 
 
+@unittest.skipUnless(lines_schema.judge(), WITHOUT)
 class WrittenLines(unittest.TestCase):
     @classmethod
     def setUpClass(cls):
@@ -78,7 +83,8 @@ class WrittenLines(unittest.TestCase):
         requests, replies = [(line, said.number_of(reply)) for line, reply in rows], [reply for _, reply in rows]
         cls.good, cls.bad = judgeable(requests, replies, kept)
         said.take()
-        others = judgeable([(line, number) for (_, number), line in said.REQUESTS.items()], said.REPLIES.values(), said.JOURNAL.values())
+        others = judgeable([(line, number) for (_, number), line in said.REQUESTS.items()], said.REPLIES.values(),
+                           said.JOURNAL.values())
         cls.good += {(kind, shape(value)): (kind, value) for kind, value in others[0]}.values()
         cls.bad += others[1]
 
@@ -86,19 +92,12 @@ class WrittenLines(unittest.TestCase):
         named = {name.removeprefix("#/$defs/") for name in references(SAID)}
         self.assertEqual(named, set(KINDS))
 
-    def test_members(self):
-        self.assertEqual([(kind, value) for kind, value in self.good if not has_members(value, kind)][:3], [])
-
     def test_lines_that_are_of_their_form(self):
-        if not lines_schema.judge():
-            self.skipTest(WITHOUT)
         self.assertEqual([self.good[place] for place in lines_schema.refused(self.good)][:3], [])
         print(f"({len(self.good)} lines) ", end="")
 
     def test_lines_that_are_not_of_their_form(self):
         self.assertGreater(len(self.bad), 100)
-        if not lines_schema.judge():
-            self.skipTest(WITHOUT)
         refused = set(lines_schema.refused([("request", value) for _, value in self.bad]))
         left = [(line, value) for place, (line, value) in enumerate(self.bad) if place not in refused]
         self.assertEqual([line for line, value in left if is_all_rising(value)][:3], [])
@@ -106,10 +105,5 @@ class WrittenLines(unittest.TestCase):
         print(f"({len(refused)} lines, and {len(left)} whose ordinals don't rise) ", end="")
 
     def test_what_is_no_line(self):
-        if not lines_schema.judge():
-            self.skipTest(WITHOUT)
-        self.assertEqual(lines_schema.refused(WRONG), list(range(len(WRONG))))
-
-
-if __name__ == "__main__":
-    unittest.main()
+        wrong = [(kind, json.loads(line)) for kind, lines in WRONG.items() for line in lines.split()]
+        self.assertEqual(lines_schema.refused(wrong), list(range(26)))

@@ -1,5 +1,5 @@
-"""The client in Python over the socket of a service: the same calls with the same answers, also where the service ends meanwhile and
-is begun again."""
+"""The client in Python over the socket of a service: the same calls with the same answers, also where the service ends
+meanwhile and is begun again."""
 import os
 import re
 import signal
@@ -7,30 +7,18 @@ import socket
 import tempfile
 import threading
 import time
-import unittest
 from unittest import mock
+
+import pytest
 
 import registryd
 import registryd.service
-from registryd import (
-    Accepted,
-    AlreadyPublished,
-    BudgetSpent,
-    Ended,
-    List,
-    Listing,
-    Publish,
-    Registry,
-    Resolve,
-    Selection,
-    Unyank,
-    Yank,
-)
+from registryd import Accepted, BudgetSpent, Ended, List, Listing, Publish, Registry, Resolve, Selection
 from tests.program.test_client_python import Calls
 from tests.support import client_python
 from tests.support.client_python import HOPELESS, SECONDS, SOON, pigeons
 from tests.support.program import journal_line
-from tests.support.scripted_service import FENCE, GREETING, Scripted
+from tests.support.scripted_service import ASKED, FENCE, LOST, PUBLISHED, UNAVAILABLE, Scripted
 from tests.support.services import Service, kill, wait_for
 
 
@@ -59,36 +47,39 @@ class Connected(client_python.Case):
 
     def test_what_cannot_be_asked_for(self):
         for options in ({"journal": "a"}, {"load": "a"}, {"save": "a"}, {"embedded": True}):
-            with self.assertRaises(ValueError):
+            with pytest.raises(ValueError):
                 Registry(connect="nowhere", **options)
-        with self.assertRaises(FileNotFoundError):
+        with pytest.raises(FileNotFoundError):
             Registry(connect=self.path("nowhere"))
-        with self.assertRaises(ConnectionRefusedError):
+        with pytest.raises(ConnectionRefusedError):
             Registry(connect="127.0.0.1:1")
 
     def test_a_port(self):
         service = self.service("--port", 0)
         with Registry(connect="{}:{}".format(*service.address())) as registry:
-            self.assertEqual((registry.publish("log", "1.0.0"), registry.resolve({"log": "*"})), (1, Selection(1, {"log": "1.0.0"})))
+            assert registry.publish("log", "1.0.0") == 1
+            assert registry.resolve({"log": "*"}) == Selection(1, {"log": "1.0.0"})
 
     def test_two_sessions_see_each_other(self):
         service = self.service()
         with Registry(connect=service.socket) as one, Registry(connect=service.socket) as other:
-            self.assertEqual((one.publish("log", "1.0.0"), other.publish("log", "1.1.0")), (1, 2))
-            self.assertEqual(one.resolve({"log": "*"}), Selection(2, {"log": "1.1.0"}))
+            assert (one.publish("log", "1.0.0"), other.publish("log", "1.1.0")) == (1, 2)
+            assert one.resolve({"log": "*"}) == Selection(2, {"log": "1.1.0"})
         # the service goes on
         with Registry(connect=service.socket) as registry:
-            self.assertEqual(registry.list().revision, 2)
+            assert registry.list().revision == 2
 
     def test_it_is_killed_and_begun_again_while_it_is_asked(self):
-        self.enterContext(mock.patch.object(registryd.service, "PATIENCE", SECONDS))  # so long a begin may take on a busy machine
+        # so long a begin may take on a busy machine
+        self.enterContext(mock.patch.object(registryd.service, "PATIENCE", SECONDS))
         service, faults, told = self.service(), [], []
 
         def ask():
             try:
                 with Registry(connect=service.socket) as registry:
                     for minor in range(0, 120, 3):
-                        futures = registry.many([*(Publish("log", f"1.{minor + more}.0") for more in range(3)), Resolve({"log": "*"})])
+                        futures = registry.many([*(Publish("log", f"1.{minor + more}.0") for more in range(3)),
+                                                 Resolve({"log": "*"})])
                         told.append([it.result(SECONDS) for it in futures])
                         time.sleep(0.01)
             except BaseException as fault:
@@ -102,42 +93,30 @@ class Connected(client_python.Case):
             service.wait()
             service = self.service()
         asking.join()
-        self.assertEqual(faults, [])
-        self.assertEqual(told, [[*(Accepted(minor + more + 1) for more in range(3)), Selection(minor + 3, {"log": f"1.{minor + 2}.0"})]
-                                for minor in range(0, 120, 3)])
-        self.assertEqual(len(service.commands()), 120)
+        assert faults == []
+        assert told == [[*(Accepted(minor + more + 1) for more in range(3)),
+                         Selection(minor + 3, {"log": f"1.{minor + 2}.0"})] for minor in range(0, 120, 3)]
+        assert len(service.commands()) == 120
 
     def test_its_programs_are_killed_while_it_is_asked(self):
         service = self.service()
         with Registry(connect=service.socket) as registry:
             for number in range(6):
-                futures = registry.many([*(Publish(f"p{number}", f"1.{minor}.0") for minor in range(100)), *[Resolve({"p0": "*"})] * 20])
+                futures = registry.many([*(Publish(f"p{number}", f"1.{minor}.0") for minor in range(100)),
+                                         *[Resolve({"p0": "*"})] * 20])
                 keepers, readers = service.programs()
                 kill((keepers, readers, keepers + readers)[number % 3])
                 replies = [it.result(SECONDS) for it in futures]
-                self.assertEqual([it.revision for it in replies[:100]], list(range(100 * number + 1, 100 * number + 101)))
-                self.assertEqual({type(it) for it in replies[100:]}, {Selection})
+                assert [it.revision for it in replies[:100]] == list(range(100 * number + 1, 100 * number + 101))
+                assert {type(it) for it in replies[100:]} == {Selection}
                 wait_for(lambda: service.get("/health")[0] == 200)
         wanted = [Publish(f"p{number}", f"1.{minor}.0").line() for number in range(6) for minor in range(100)]
-        self.assertEqual(service.commands(), [journal_line(it).encode() for it in wanted])
-
-    def test_what_stood_before_is_no_answer(self):
-        """Only what was carried out since the last reply counts as this session's."""
-        service = self.service()
-        registry = Registry(connect=service.socket)
-        self.assertEqual(registry.publish("log", "1.0.0", {"zlib": "*"}), 1)
-        keeper = service.keeper()
-        os.kill(keeper, signal.SIGSTOP)
-        again, yank = registry.many([Publish("log", "1.0.0", {"zlib": "*"}), Yank("log", "1.0.0")])
-        os.kill(keeper, signal.SIGKILL)
-        self.assertIsInstance(again.exception(SECONDS), registryd.AlreadyPublished)
-        self.assertEqual(yank.result(SECONDS), Accepted(2))
-        registry.close()
+        assert service.commands() == [journal_line(it).encode() for it in wanted]
 
     def test_a_service_that_stays_away(self):
         service = self.service()
         registry = Registry(connect=service.socket)
-        self.assertEqual(registry.publish("log", "1.0.0"), 1)
+        assert registry.publish("log", "1.0.0") == 1
         with mock.patch.object(registryd.service, "PATIENCE", 0.5):
             service.end()
             told = re.escape(f"the service at {service.socket} is not there any more")
@@ -149,7 +128,7 @@ class Connected(client_python.Case):
     def test_closing_has_a_limit_and_a_search_too(self):
         service = self.service("--seconds", 1)
         with Registry(connect=service.socket) as registry:
-            with self.assertRaises(BudgetSpent):
+            with pytest.raises(BudgetSpent):
                 registry.ask(pigeons(registry)).result(SECONDS)
         service.end()
         registry = Registry(connect=self.service("--seconds", SECONDS).socket)
@@ -160,21 +139,22 @@ class Connected(client_python.Case):
         with Registry(connect=service.socket) as registry:
             futures = registry.many(Publish("a", f"{number}.0.0") for number in range(2_000))
             futures += registry.many([List()] * 100)
-            self.assertEqual(len([it.result(SECONDS) for it in futures][-1].packages["a"]), 2_000)
+            assert len([it.result(SECONDS) for it in futures][-1].packages["a"]) == 2_000
 
     def test_too_many_clients(self):
         service = self.service("--clients", 1)
         with Registry(connect=service.socket) as one:
-            with self.assertRaisesRegex(ConnectionRefusedError, re.escape(f"the service at {service.socket} can't be asked now: TooManyClients")):
+            with pytest.raises(ConnectionRefusedError,
+                               match=re.escape(f"the service at {service.socket} can't be asked now: TooManyClients")):
                 Registry(connect=service.socket)
-            self.assertEqual(one.publish("log", "1.0.0"), 1)
+            assert one.publish("log", "1.0.0") == 1
 
     def close_in_time(self, registry, futures):
         begun = time.monotonic()
         self.ends("the service had not answered 0.5 seconds after the session was closed", lambda: registry.close(0.5))
-        self.assertLess(time.monotonic() - begun, SOON)
+        assert time.monotonic() - begun < SOON
         for future in futures:
-            self.assertIsInstance(future.exception(SECONDS), Ended)
+            assert isinstance(future.exception(SECONDS), Ended)
 
     def test_closing_has_a_limit_where_the_service_is_stopped(self):
         service = self.service()
@@ -196,8 +176,8 @@ class Connected(client_python.Case):
         os.kill(service.running.pid, signal.SIGSTOP)
         begun, future = time.monotonic(), registry.ask(List())
         registry.kill()
-        self.assertLess(time.monotonic() - begun, SOON)
-        self.assertIsInstance(future.exception(SECONDS), Ended)
+        assert time.monotonic() - begun < SOON
+        assert isinstance(future.exception(SECONDS), Ended)
         os.kill(service.running.pid, signal.SIGCONT)
 
     def test_what_a_future_calls_back_may_ask(self):
@@ -208,14 +188,7 @@ class Connected(client_python.Case):
             for future in registry.many([registryd.Line(b'{"op":"list"}' + b" " * 10_000)] * 300):
                 future.add_done_callback(lambda _: more.append(registry.ask(List())))
             wait_for(lambda: len(more) == 300)
-            self.assertEqual([it.result(SECONDS) for it in more], [Listing(0, {})] * 300)
-
-
-PUBLISHED, YANKED, UNYANKED = ('{"name":"log","needs":[],"op":"publish","version":"1.0.0"}', '{"name":"log","op":"yank","version":"1.0.0"}',
-                              '{"name":"log","op":"unyank","version":"1.0.0"}')
-PUBLISH, YANK, UNYANK, LIST = (it.line() for it in (Publish("log", "1.0.0"), Yank("log", "1.0.0"), Unyank("log", "1.0.0"), List()))
-UNAVAILABLE = '{"error":503,"name":"Unavailable","revision":1}\n'
-LISTED = '{"packages":[["log",[["1.0.0",true]]]],"revision":4}\n'
+            assert [it.result(SECONDS) for it in more] == [Listing(0, {})] * 300
 
 
 class Scripts(client_python.Case):
@@ -226,49 +199,21 @@ class Scripts(client_python.Case):
         self.addCleanup(service.end)
         return service, Registry(connect=service.path)
 
-    def test_commands_are_looked_up_in_their_order(self):
-        for first in ("", UNAVAILABLE, '{"ok":true,"rev'):
-            service, registry = self.session(1, [PUBLISHED, YANKED, UNYANKED], [(4, first), (2, '{"ok":true,"revision":4}\n' + LISTED)])
-            futures = registry.many([Yank("log", "1.0.0"), Unyank("log", "1.0.0"), Yank("log", "1.0.0"), List()])
-            self.assertEqual([it.result(SECONDS) for it in futures],
-                             [Accepted(2), Accepted(3), Accepted(4), Listing(4, {"log": (("1.0.0", True),)})])
-            self.assertEqual(service.asked, [[GREETING, YANK, UNYANK, YANK, LIST], [FENCE, YANK, LIST]])
+    def test_lines_whose_replies_are_lost(self):
+        for journal, scripts, lines, replies, asked in LOST:
+            service, registry = self.session(1, journal, scripts)
+            told = [it.exception(SECONDS) or it.result() for it in registry.many([ASKED[line] for line in lines])]
+            wanted = [registryd.replies.answer(it.encode()) for it in replies.splitlines()]
+            assert [(type(it), it.revision) for it in told] == [(type(it), it.revision) for it in wanted]
+            assert service.asked == asked, scripts
             registry.kill()
-
-    def test_what_was_answered_counts_as_told(self):
-        service, registry = self.session(1, [PUBLISHED, YANKED, UNYANKED], [(3, '{"ok":true,"revision":2}\n'), (1, '{"ok":true,"revision":4}\n')])
-        futures = registry.many([Yank("log", "1.0.0"), Unyank("log", "1.0.0"), Yank("log", "1.0.0")])
-        self.assertEqual([it.result(SECONDS) for it in futures], [Accepted(2), Accepted(3), Accepted(4)])
-        self.assertEqual(service.asked[1], [FENCE, YANK])
-        registry.kill()
-
-    def test_what_stood_when_it_connected_is_no_answer(self):
-        service, registry = self.session(1, [PUBLISHED], [(1, ""), (1, '{"error":7,"name":"AlreadyPublished","revision":1}\n')])
-        with self.assertRaises(AlreadyPublished):
-            registry.publish("log", "1.0.0")
-        self.assertEqual(service.asked, [[GREETING, PUBLISH], [FENCE, PUBLISH]])
-        registry.kill()
-
-    def test_what_a_service_refuses_is_not_asked_again(self):
-        service, registry = self.session(1, [], [(2, '{"error":503,"name":"DiskFault","reason":"the journal can\'t be written: so","revision":1}\n' + LISTED)])
-        refused, listed = registry.many([Yank("log", "1.0.0"), List()])
-        with self.assertRaisesRegex(registryd.Refusal, "^the journal can't be written: so: .*, at revision 1$"):
-            refused.result(SECONDS)
-        self.assertEqual((listed.result(SECONDS).revision, service.asked), (4, [[GREETING, YANK, LIST]]))
-        registry.kill()
-
-    def test_requests_alone_need_no_look(self):
-        service, registry = self.session(1, [PUBLISHED], [(1, ""), (1, LISTED)])
-        self.assertEqual(registry.list().revision, 4)
-        self.assertEqual(service.asked, [[GREETING, LIST], [GREETING, LIST]])
-        registry.kill()
 
     def test_a_journal_that_is_cut_off_tells_nothing(self):
         service, registry = self.session(1, [PUBLISHED], [(1, ""), (0, "..."), (0, "..."), (0, "")])
         service.journal = service.journal.removesuffix("end 1\n")
         with mock.patch.object(registryd.service, "PATIENCE", 3):
             self.ends("is not there any more", lambda: registry.yank("log", "1.0.0"))
-            self.assertEqual({tuple(it) for it in service.asked[1:]}, {(FENCE,)})
+            assert {tuple(it) for it in service.asked[1:]} == {(FENCE,)}
 
     def test_a_connection_that_is_not_ended(self):
         """A command may still be under way then, and a request asked again."""
@@ -295,12 +240,8 @@ class Scripts(client_python.Case):
                 connection.close()
             thread = threading.Thread(target=run)
             thread.start()
-            with self.assertRaises(ConnectionError):
+            with pytest.raises(ConnectionError):
                 Registry(connect=self.path("other"))
             thread.join()
             listening.close()
             os.unlink(self.path("other"))
-
-
-if __name__ == "__main__":
-    unittest.main()

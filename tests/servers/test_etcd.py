@@ -1,5 +1,5 @@
-"""Fronts over etcd: what they answer when replies are lost, entries race and cells are dropped. Behind the fronts stands a small etcd in
-memory; a real one is asked, too."""
+"""Fronts over etcd: what they answer when replies are lost, entries race and cells are dropped. Behind the fronts
+stands a small etcd in memory; a real one is asked, too."""
 import hashlib
 import json
 import os
@@ -11,6 +11,7 @@ import tempfile
 import time
 import unittest
 from base64 import b64decode, b64encode
+from pathlib import Path
 
 from dev.long import etcd_histories
 from registry_cli.limits import MOST_COMMANDS, MOST_LINE_BYTES
@@ -28,11 +29,12 @@ class OverSmallEtcd(Case):
     # ---- what is answered
 
     def test_every_kind_of_line(self):
-        lines = ['{"op":"resolve","nee', A1, resolve("a ^1"), resolve("a ^2"), yank("a", "1.0.0"), yank("a", "1.0.0"), LIST,
-                 '{"op":"publish","name":"a"}', publish("A", "1.0.0"), "", unyank("b", "1.0.0")]
+        lines = ['{"op":"resolve","nee', A1, resolve("a ^1"), resolve("a ^2"), yank("a", "1.0.0"),
+                 yank("a", "1.0.0"), LIST, '{"op":"publish","name":"a"}', publish("A", "1.0.0"), "",
+                 unyank("b", "1.0.0")]
         given = "".join(line + "\n" for line in lines).encode()
         at = '"place":%d,%s"revision":%d,"seat":7'
-        self.assertEqual(self.done("serve", "--seat", "7", given=given).split("\n"), [
+        assert self.done("serve", "--seat", "7", given=given).split("\n") == [
             refused(19, "BadLine", 0, 0, 7),
             accepted(1, seat=7),
             "{" + at % (1, "", 1) + ',"selected":[["a","1.0.0"]]}',
@@ -43,8 +45,8 @@ class OverSmallEtcd(Case):
             refused(19, "BadLine", 3, 2, 7),
             refused(1, "BadName", 4, 2, 7),
             refused(19, "BadLine", 4, 2, 7),
-            refused(11, "NoSuchVersion", 5, 2, 7), ""])
-        self.assertEqual(self.journal(), "registry-journal 1\n" + program.journal_line(A1) + "\n"
+            refused(11, "NoSuchVersion", 5, 2, 7), ""]
+        assert self.journal() == ("registry-journal 1\n" + program.journal_line(A1) + "\n"
                          + program.journal_line(yank("a", "1.0.0")) + "\nend 2\n")
 
     def test_lines_at_their_edges(self):
@@ -52,32 +54,7 @@ class OverSmallEtcd(Case):
         longest = b'{"op":"list"}' + b" " * (MOST_LINE_BYTES - len(LIST))
         told = self.done("serve", given=longest + b"\n" + longest + b" \n" + LIST.encode())
         listed = '{"packages":[],"place":0,"revision":0,"seat":1}\n'
-        self.assertEqual(told, listed + refused(19, "BadLine", 0, 0) + "\n" + listed)
-
-    def test_a_command_that_can_be_accepted_nowhere_takes_no_cell(self):
-        front = self.front()
-        long = publish("c", "1.0.0", [f"d{n} " + "=1.0.0," * 36 + "=1.0.0" for n in range(140)])
-        self.assertEqual(front.ask(A1) + front.ask(A1) + front.ask(long),
-                         [accepted(1), refused(7, "AlreadyPublished", 1, 1), refused(3, "BadRequirement", 1, 1)])
-        self.assertEqual(list(self.cells()), ["registry/cells/00000000", "registry/cells/00000001"])
-
-    def test_lines_that_come_together_share_a_transaction(self):
-        calls = []
-        front = self.front(hook=lambda moment, path, asked: calls.append(path))
-        front.ask(LIST)
-        before = len(calls)
-        lines = [publish("p", f"1.{n}.0") for n in range(50)]
-        self.assertEqual(front.ask(*lines), [accepted(n + 1) for n in range(50)])
-        self.assertLess(sum(path == "/v3/kv/txn" for path in calls[before:]), 50)
-
-    def test_requests_that_come_together_share_a_look(self):
-        calls = []
-        front = self.front(hook=lambda moment, path, asked: calls.append((moment, path)))
-        front.ask(A1)
-        front.ask(LIST)
-        before = len(calls)
-        front.ask(*[resolve("a *")] * 100)  # as many as one write of a client has
-        self.assertLess(calls[before:].count(("before", "/v3/kv/range")), 10)
+        assert told == listed + refused(19, "BadLine", 0, 0) + "\n" + listed
 
     def test_what_a_look_finds_counts_though_the_replica_was_asked_before(self):
         # an entry comes between the line and the read: the front had no reason to expect one
@@ -88,13 +65,13 @@ class OverSmallEtcd(Case):
             if moment == "before" and path == "/v3/kv/range" and entering:
                 self.done("serve", "--seat", "2", given=entering.pop().encode())
         front = self.front(hook=hook)
-        self.assertEqual(front.ask(LIST), ['{"packages":[],"place":0,"revision":0,"seat":1}'])
+        assert front.ask(LIST) == ['{"packages":[],"place":0,"revision":0,"seat":1}']
         entering.append(A1)
         selected = '{"place":1,"revision":1,"seat":1,"selected":[["a","1.0.0"]]}'
         none = '{"place":1,"refused":true,"revision":1,"seat":1}'
-        self.assertEqual(front.ask(resolve("a *"), resolve("a ^2"), resolve("a *")), [selected, none, selected])
+        assert front.ask(resolve("a *"), resolve("a ^2"), resolve("a *")) == [selected, none, selected]
         # what was accepted is known as accepted, and takes no cell once more
-        self.assertEqual(front.ask(resolve("a *"), A1), [selected, refused(7, "AlreadyPublished", 1, 1)])
+        assert front.ask(resolve("a *"), A1) == [selected, refused(7, "AlreadyPublished", 1, 1)]
 
     # ---- what is lost
 
@@ -102,8 +79,8 @@ class OverSmallEtcd(Case):
         for moment in ("before", "after"):
             front = self.front(hook=self.once(moment, self.drop))
             place = len(self.cells())
-            self.assertEqual(front.ask(publish("a", f"{place}.0.0")), [accepted(place)])
-        self.assertEqual(list(self.cells()), [f"registry/cells/{n:08}" for n in range(3)])
+            assert front.ask(publish("a", f"{place}.0.0")) == [accepted(place)]
+        assert list(self.cells()) == [f"registry/cells/{n:08}" for n in range(3)]
 
     def test_a_front_that_is_killed_between_its_write_and_its_reply(self):
         for moment, place in ("before", 1), ("after", 3):
@@ -113,20 +90,20 @@ class OverSmallEtcd(Case):
             front = self.front(1, writer=moment, hook=self.once(moment, kill))
             lines = [publish(moment, "1.0.0"), yank(moment, "1.0.0")]
             # it is begun again with the same lines, and the first stands where its first life had put it
-            self.assertEqual([front.ask(line)[0] for line in lines], [accepted(place), accepted(place + 1)])
-        self.assertEqual(len(self.cells()), 5)
+            assert [front.ask(line)[0] for line in lines] == [accepted(place), accepted(place + 1)]
+        assert len(self.cells()) == 5
 
     def test_a_front_begun_again_answers_as_before(self):
         lines = [A1, LIST, yank("a", "1.0.0"), yank("a", "1.0.0"), A1, B1]
         given = "".join(line + "\n" for line in lines).encode()
         told = [self.done("serve", "--writer", "w", given=given).split("\n") for _ in range(2)]
-        self.assertEqual([told[0][n] for n in (0, 2, 3, 5)], [told[1][n] for n in (0, 2, 3, 5)])
-        self.assertEqual(len(self.cells()), 5)
-        self.assertEqual(self.fails_with_lines("--writer", "w", lines=[B1]), "registryd-etcd: line 1 of w was another before\n")
+        assert [told[0][n] for n in (0, 2, 3, 5)] == [told[1][n] for n in (0, 2, 3, 5)]
+        assert len(self.cells()) == 5
+        assert self.fails_with_lines("--writer", "w", lines=[B1]) == "registryd-etcd: line 1 of w was another before\n"
 
     def fails_with_lines(self, *more, lines):
         ended = fronts.run("serve", [self.gate.url], *more, given="".join(line + "\n" for line in lines).encode())
-        self.assertEqual((ended.returncode, ended.stdout), (1, b""))
+        assert (ended.returncode, ended.stdout) == (1, b"")
         return ended.stderr.decode()
 
     def test_a_write_that_comes_late_puts_nothing(self):
@@ -136,27 +113,30 @@ class OverSmallEtcd(Case):
             late.append(asked)
             raise Drop
         front = self.front(hook=self.once("before", hold))
-        self.assertEqual(front.ask(A1), [accepted(1)])
+        assert front.ask(A1) == [accepted(1)]
         front.ask(*[publish("b", f"1.{n}.0") for n in range(20)])
         stood = self.cells()
-        self.assertNotIn("succeeded", self.etcd.answer("/v3/kv/txn", late[0])[1])
+        assert "succeeded" not in self.etcd.answer("/v3/kv/txn", late[0])[1]
         # nor where the cell that it is for was dropped
         self.done("compact", "--keep", "2")
-        self.assertNotIn("succeeded", self.etcd.answer("/v3/kv/txn", late[0])[1])
-        self.assertEqual(list(self.cells().items()), list(stood.items())[-3:])
+        assert "succeeded" not in self.etcd.answer("/v3/kv/txn", late[0])[1]
+        assert list(self.cells().items()) == list(stood.items())[-3:]
 
     def test_an_entry_that_comes_between(self):
         for second, reply in (A1, refused(7, "AlreadyPublished", 2, 1)), (A2, accepted(4, 3)):
-            front = self.front(hook=self.once("before", lambda asked: self.done("serve", "--seat", "2", given=(A1 if second == A1 else B1).encode())))
-            self.assertEqual(front.ask(second), [reply])
+            given = (A1 if second == A1 else B1).encode()
+            front = self.front(hook=self.once("before", lambda asked: self.done("serve", "--seat", "2", given=given)))
+            assert front.ask(second) == [reply]
 
     def test_two_fronts_see_each_other(self):
         first, second = self.front(1, hook=deaf), self.front(2, hook=deaf)
         for n in range(1, 20, 2):
-            self.assertEqual(first.ask(publish("a", f"{n}.0.0")), [accepted(n)])
-            self.assertEqual(second.ask(resolve("a *")), [f'{{"place":{n},"revision":{n},"seat":2,"selected":[["a","{n}.0.0"]]}}'])
-            self.assertEqual(second.ask(publish("a", f"{n + 1}.0.0")), [accepted(n + 1, seat=2)])
-            self.assertEqual(first.ask(resolve("a *")), [f'{{"place":{n + 1},"revision":{n + 1},"seat":1,"selected":[["a","{n + 1}.0.0"]]}}'])
+            assert first.ask(publish("a", f"{n}.0.0")) == [accepted(n)]
+            assert second.ask(resolve("a *")) == [f'{{"place":{n},"revision":{n},"seat":2,"selected'
+                                                  f'":[["a","{n}.0.0"]]}}']
+            assert second.ask(publish("a", f"{n + 1}.0.0")) == [accepted(n + 1, seat=2)]
+            assert first.ask(resolve("a *")) == [f'{{"place":{n + 1},"revision":{n + 1},"seat":1,"selected":[["a","'
+                                                 f'{n + 1}.0.0"]]}}']
 
     def test_a_stale_front_is_brought_up_by_the_watch_and_asks_nothing(self):
         calls = []
@@ -164,12 +144,12 @@ class OverSmallEtcd(Case):
         front.ask(LIST)
         self.done("serve", given=A1.encode())
         wanted = '{"packages":[["a",[["1.0.0",false]]]],"place":1,"revision":1,"seat":2}'
-        self.assertTrue(any(front.ask(LIST) == [wanted] for _ in range(100_000)))
+        assert any(front.ask(LIST) == [wanted] for _ in range(100_000))
         known = len(calls)
         for _ in range(50):
             front.ask(LIST)
         time.sleep(0.5)
-        self.assertEqual(calls[known:], [])
+        assert calls[known:] == []
 
     def test_a_member_that_does_not_answer(self):
         with socket.socket() as silent:
@@ -177,30 +157,21 @@ class OverSmallEtcd(Case):
             silent.listen()
             dead = f"http://127.0.0.1:{silent.getsockname()[1]}"
             ended = fronts.run("serve", [dead, self.gate.url], "--timeout", "0.2", given=A1.encode())
-            self.assertEqual((ended.stdout.decode(), ended.returncode), (accepted(1) + "\n", 0))
+            assert (ended.stdout.decode(), ended.returncode) == (accepted(1) + "\n", 0)
             ended = fronts.run("serve", [dead], "--timeout", "0.1", "--patience", "0.3", given=A1.encode())
-        self.assertEqual((ended.stdout, ended.returncode), (b"", 1))
-        self.assertIn(b"registryd-etcd: no member of etcd answers", ended.stderr)
-
-    def test_a_replica_that_is_killed(self):
-        front = self.front()
-        front.ask(A1)
-        for line, reply in (B1, accepted(2)), (resolve("b *"), '{"place":2,"revision":2,"seat":1,"selected":[["b","1.0.0"]]}'):
-            with open(f"/proc/{front.child.pid}/task/{front.child.pid}/children", encoding="ascii") as children:
-                os.kill(int(children.read().split()[0]), signal.SIGKILL)
-            time.sleep(0.05)
-            self.assertEqual(front.ask(line), [reply])
+        assert (ended.stdout, ended.returncode) == (b"", 1)
+        assert b"registryd-etcd: no member of etcd answers" in ended.stderr
 
     # ---- snapshots
 
     def test_snapshots_on_the_way(self):
         front = self.front(1, "--compact-every", "4", "--keep", "2")
         for n in range(1, 12):
-            self.assertEqual(front.ask(publish("a", f"{n}.0.0")), [accepted(n)])
+            assert front.ask(publish("a", f"{n}.0.0")) == [accepted(n)]
         listed = front.ask(LIST)[0]
-        self.assertEqual(list(self.cells()), [f"registry/cells/{n:08}" for n in range(6, 12)])
-        self.assertEqual(self.done("serve", given=LIST.encode()), listed + "\n")
-        self.assertEqual(sum(key.startswith(b"registry/pages/") for key in self.etcd.kept), 1)
+        assert list(self.cells()) == [f"registry/cells/{n:08}" for n in range(6, 12)]
+        assert self.done("serve", given=LIST.encode()) == listed + "\n"
+        assert sum(key.startswith(b"registry/pages/") for key in self.etcd.kept) == 1
 
     def test_a_front_that_was_held_up_goes_on_from_the_snapshot(self):
         held = self.front(1, hook=deaf)
@@ -208,8 +179,9 @@ class OverSmallEtcd(Case):
         lines = "".join(publish("b", f"1.{n}.0") + "\n" for n in range(30))
         self.done("serve", "--seat", "2", given=lines.encode())
         self.done("compact", "--keep", "3")
-        self.assertEqual(held.ask(publish("b", "2.0.0")), [accepted(32)])
-        self.assertEqual(held.ask(LIST)[0].replace('"seat":1', '"seat":2') + "\n", self.done("serve", "--seat", "2", given=LIST.encode()))
+        assert held.ask(publish("b", "2.0.0")) == [accepted(32)]
+        assert held.ask(LIST)[0].replace('"seat":1', '"seat":2') + "\n" == self.done("serve", "--seat", "2",
+                given=LIST.encode())
 
     def test_a_snapshot_that_is_overtaken_while_it_is_read(self):
         # between what names the pages and the pages another snapshot takes their place
@@ -220,8 +192,8 @@ class OverSmallEtcd(Case):
                 self.done("serve", "--seat", "2", given=left.pop().encode())
                 self.done("compact", "--keep", "0")
         front = self.front(1, hook=overtake)
-        self.assertEqual(front.ask(LIST), ['{"packages":[["b",[["1.0.0",false]]]],"place":1,"revision":1,"seat":1}'])
-        self.assertEqual(left, [])
+        assert front.ask(LIST) == ['{"packages":[["b",[["1.0.0",false]]]],"place":1,"revision":1,"seat":1}']
+        assert left == []
 
     def test_a_reply_that_is_no_longer_kept(self):
         # the entry stands, and before its writer learns of it, a snapshot takes its place
@@ -232,69 +204,73 @@ class OverSmallEtcd(Case):
         front = self.front(1, writer="w", hook=self.once("after", overtake))
         front.child.stdin.write(A1 + "\n")
         front.child.stdin.flush()
-        self.assertEqual(front.end(), (1, "registryd-etcd: line 1 of w was answered before, and its reply is no longer kept\n"))
-        self.assertEqual(self.journal().count('"name":"a"'), 1)
+        assert front.end() == (1, "registryd-etcd: line 1 of w was answered before, and its reply is no longer kept\n")
+        assert self.journal().count('"name":"a"') == 1
 
     def test_a_front_begins_with_a_file(self):
         path = os.path.join(self.folder, "journal")
         self.done("serve", "--save", path, given=(A1 + "\n" + yank("c", "1.0.0") + "\n" + A2).encode())
-        with open(path, encoding="ascii") as file:
-            self.assertEqual(file.read(), f"registry-journal 1\n{program.journal_line(A1)}\n{program.journal_line(A2)}\nend 2\n")
+        assert (Path(path).read_text(encoding="ascii")
+                == f"registry-journal 1\n{program.journal_line(A1)}\n{program.journal_line(A2)}\nend 2\n")
         self.done("serve", given=B1.encode())
         keys = []
-        gate = self.opened(lambda moment, path, asked: keys.append(b64decode(asked["key"])) if path == "/v3/kv/range" else None)
-        listed = '{"packages":[["a",[["1.0.0",false],["2.0.0",false]]],["b",[["1.0.0",false]]]],"place":4,"revision":3,"seat":1}\n'
-        self.assertEqual(self.done("serve", "--load", path, given=LIST.encode(), gate=gate), listed)
+        gate = self.opened(lambda moment, path, asked: keys.append(b64decode(asked["key"])) if path
+                           == "/v3/kv/range" else None)
+        listed = ('{"packages":[["a",[["1.0.0",false],["2.0.0",false]]],["b",[["1.0.0",false]]]],'
+                  '"place":4,"revision":3,"seat":1}\n')
+        assert self.done("serve", "--load", path, given=LIST.encode(), gate=gate) == listed
         # no page of the snapshot was read, and no cell before the file's place
-        self.assertEqual(set(keys), {b"registry/snapshot", b"registry/cells/00000003", b"registry/cells/00000004"})
+        assert set(keys) == {b"registry/snapshot", b"registry/cells/00000003", b"registry/cells/00000004"}
         with open(path, "a", encoding="ascii") as file:
             file.write(" ")
-        self.assertIn("do not belong together", self.fails("serve", "--load", path))
+        assert "do not belong together" in self.fails("serve", "--load", path)
         # a file of another journal
         self.done("found", "--prefix", "other")
         self.done("serve", "--prefix", "other", "--save", path)
-        self.assertIn("is another than that under registry", self.fails("serve", "--load", path))
+        assert "is another than that under registry" in self.fails("serve", "--load", path)
 
     def test_a_journal_is_founded_once_with_what_a_session_left(self):
-        self.assertIn("a journal stands under registry already", self.fails("found"))
-        self.assertIn("no journal was founded under new", self.fails("serve", "--prefix", "new"))
+        assert "a journal stands under registry already" in self.fails("found")
+        assert "no journal was founded under new" in self.fails("serve", "--prefix", "new")
         path = os.path.join(self.folder, "journal")
-        program.run([*program.SERVE, "--save", path], "".join(f"{line}\n" for line in (A2, B1, publish("b", "1.1.0", ["c ^1"]), publish("c", "1.0.0"), resolve("a ^2"))).encode())
+        lines = (A2, B1, publish("b", "1.1.0", ["c ^1"]), publish("c", "1.0.0"), resolve("a ^2"))
+        program.run([*program.SERVE, "--save", path], "".join(f"{line}\n" for line in lines).encode())
         self.done("found", "--prefix", "new", "--load", path)
         told = self.done("serve", "--prefix", "new", given=(resolve("a ^2") + "\n" + A1).encode())
-        self.assertEqual(told, '{"place":0,"revision":4,"seat":1,"selected":[["a","2.0.0"],["b","1.1.0"],["c","1.0.0"]]}\n' + accepted(1, 5) + "\n")
-        with open(path, "w", encoding="ascii") as file:
-            file.write("registry-journal 1\n{}\nend 1\n")
-        self.assertIn("registryd: journal line 2", self.fails("found", "--prefix", "bad", "--load", path))
-        self.assertIn("no journal was founded under bad", self.fails("serve", "--prefix", "bad"))
+        assert (told == '{"place":0,"revision":4,"seat":1,"selected":[["a","2.0.0"],["b","1.1.0"],["c",'
+                '"1.0.0"]]}\n' + accepted(1, 5) + "\n")
+        Path(path).write_text("registry-journal 1\n{}\nend 1\n", encoding="ascii")
+        assert "registryd: journal line 2" in self.fails("found", "--prefix", "bad", "--load", path)
+        assert "no journal was founded under bad" in self.fails("serve", "--prefix", "bad")
 
     def test_a_journal_is_founded_with_what_a_killed_session_left(self):
         path = os.path.join(self.folder, "journal")
         held = Client([*program.SERVE, "--journal", path])
         held.send([A2, B1])
-        self.assertTrue(held.read_until(2))
-        self.assertIn(f"registryd: journal {path}: in use by another session", self.fails("found", "--prefix", "new", "--journal", path))
+        assert held.read_until(2)
+        assert f"registryd: journal {path}: in use by another session" in self.fails("found", "--prefix",
+                "new", "--journal", path)
         held.kill()
         with open(path, "ab") as file:
             file.write(b'{"name":"half')
         self.done("found", "--prefix", "new", "--journal", path)
         listed = '{"packages":[["a",[["2.0.0",false]]],["b",[["1.0.0",false]]]],"place":0,"revision":2,"seat":1}\n'
-        self.assertEqual(self.done("serve", "--prefix", "new", given=LIST.encode()), listed)
-        with open(path, "w", encoding="ascii") as file:
-            file.write("registry-journal 1\n{}\n")
-        self.assertIn("line 2 is not a journal's", self.fails("found", "--prefix", "bad", "--journal", path))
+        assert self.done("serve", "--prefix", "new", given=LIST.encode()) == listed
+        Path(path).write_text("registry-journal 1\n{}\n", encoding="ascii")
+        assert "line 2 is not a journal's" in self.fails("found", "--prefix", "bad", "--journal", path)
         os.unlink(path)
-        self.assertIn("is not there", self.fails("found", "--prefix", "bad", "--journal", path))
-        self.assertFalse(os.path.exists(path))
-        self.assertIn("no journal was founded under bad", self.fails("serve", "--prefix", "bad"))
+        assert "is not there" in self.fails("found", "--prefix", "bad", "--journal", path)
+        assert not os.path.exists(path)
+        assert "no journal was founded under bad" in self.fails("serve", "--prefix", "bad")
 
     def test_a_front_keeps_no_journal(self):
         path = os.path.join(self.folder, "journal")
-        for words in (["serve", "--journal", path], ["journal", "--journal", path], ["found", "--prefix", "new", "--load", path, "--journal", path]):
+        for words in (["serve", "--journal", path], ["journal", "--journal", path],
+                      ["found", "--prefix", "new", "--load", path, "--journal", path]):
             ended = fronts.run(*words[:1], [self.gate.url], *words[1:])
-            self.assertEqual((ended.returncode, ended.stdout), (2, b""))
-            self.assertIn(b"--journal is for found alone", ended.stderr)
-        self.assertFalse(os.path.exists(path))
+            assert (ended.returncode, ended.stdout) == (2, b"")
+            assert b"--journal is for found alone" in ended.stderr
+        assert not os.path.exists(path)
 
     def test_a_full_journal(self):
         # one publication, and then it is yanked and taken back until one command less than a session accepts
@@ -302,12 +278,13 @@ class OverSmallEtcd(Case):
         turns = [program.journal_line(yank("a", "1.0.0")), program.journal_line(unyank("a", "1.0.0"))]
         lines = ["registry-journal 1", program.journal_line(A1), *(turns * most)[:most - 2], f"end {most - 1}", ""]
         path = os.path.join(self.folder, "journal")
-        with open(path, "w", encoding="ascii") as file:
-            file.write("\n".join(lines))
+        Path(path).write_text("\n".join(lines), encoding="ascii")
         self.done("found", "--prefix", "full", "--load", path)
-        told = self.done("serve", "--prefix", "full", given="\n".join([*turns, B1, resolve("a *", lock=["a 1.0.0"])]).encode())
-        self.assertEqual(told, accepted(1, most) + "\n" + refused(10, "JournalFull", 2, most) + "\n" + refused(10, "JournalFull", 3, most)
-                         + f'\n{{"place":3,"revision":{most},"seat":1,"selected":[["a","1.0.0"]]}}\n')
+        told = self.done("serve", "--prefix", "full", given="\n".join([*turns, B1,
+                                                                       resolve("a *", lock=["a 1.0.0"])]).encode())
+        assert told == (accepted(1, most) + "\n" + refused(10, "JournalFull", 2, most) + "\n"
+                        + refused(10, "JournalFull", 3, most)
+                        + f'\n{{"place":3,"revision":{most},"seat":1,"selected":[["a","1.0.0"]]}}\n')
 
     # ---- what lies
 
@@ -319,29 +296,29 @@ class OverSmallEtcd(Case):
                     encoded({"command": json.loads(A1), "seat": -1, "serial": 1, "writer": "w"})]
         for place, value in enumerate(nonsense, 1):
             self.put(place, value)
-        self.assertEqual(self.done("serve", given=(LIST + "\n" + A1).encode()),
-                         '{"packages":[],"place":4,"revision":0,"seat":1}\n' + accepted(5, 1) + "\n")
+        replies = '{"packages":[],"place":4,"revision":0,"seat":1}\n' + accepted(5, 1) + "\n"
+        assert self.done("serve", given=(LIST + "\n" + A1).encode()) == replies
 
     def test_a_cell_that_was_written_twice_or_is_gone(self):
         self.done("serve", given="".join(publish("a", f"{n}.0.0") + "\n" for n in range(4)).encode())
         kept = dict(self.etcd.kept)
         self.put(3, encoded({}))
-        self.assertIn("cell 3 was written twice", self.fails("serve"))
+        assert "cell 3 was written twice" in self.fails("serve")
         self.etcd.kept = {key: row for key, row in kept.items() if not key.endswith(b"3")}
-        self.assertIn("cell 4 does not follow on cell 2", self.fails("serve"))
+        assert "cell 4 does not follow on cell 2" in self.fails("serve")
         self.etcd.kept = dict(kept)
         del self.etcd.kept[b"registry/cells/00000002"]
         self.put(2, encoded({}))
-        self.assertIn("cell 3 does not follow on cell 2", self.fails("serve"))
+        assert "cell 3 does not follow on cell 2" in self.fails("serve")
         self.etcd.kept = {**kept, b"registry/cells/x": kept[b"registry/cells/00000004"]}
-        self.assertIn("no cell has the key b'x'", self.fails("serve"))
+        assert "no cell has the key b'x'" in self.fails("serve")
         # etcd as it was before: a front that has read more goes no further
         self.etcd.kept = dict(kept)
         front = self.front()
         front.ask(LIST)
         self.etcd.kept = {key: row for key, row in kept.items() if not key.endswith(b"4")}
-        self.assertIsNone(front.send([A1]))
-        self.assertEqual(front.end(), (1, "registryd-etcd: cell 4 is gone, and no snapshot stands for it\n"))
+        assert front.send([A1]) is None
+        assert front.end() == (1, "registryd-etcd: cell 4 is gone, and no snapshot stands for it\n")
 
     def test_a_snapshot_that_lies(self):
         front = self.front(1, hook=deaf)
@@ -352,14 +329,14 @@ class OverSmallEtcd(Case):
         (page,) = [key for key in self.etcd.kept if b"/pages/" in key]
         told = self.etcd.kept[page][3].replace(b'"1.0.0"', b'"6.6.6"')
         self.etcd.answer("/v3/kv/put", {"key": b64encode(page).decode(), "value": b64encode(told).decode()})
-        self.assertIn("the pages of the snapshot are not those that were written", self.fails("serve"))
+        assert "the pages of the snapshot are not those that were written" in self.fails("serve")
         # whoever writes both is found out by a front that has read what the page was written for
         head["digest"] = hashlib.sha256(told).hexdigest()
         self.etcd.answer("/v3/kv/put", {"key": b64encode(b"registry/snapshot").decode(), "value": encoded(head)})
-        self.assertIsNone(front.send([LIST]))
-        self.assertEqual(front.end(), (1, "registryd-etcd: the snapshot does not begin with what was accepted before\n"))
+        assert front.send([LIST]) is None
+        assert front.end() == (1, "registryd-etcd: the snapshot does not begin with what was accepted before\n")
         self.etcd.answer("/v3/kv/put", {"key": b64encode(b"registry/snapshot").decode(), "value": encoded({})})
-        self.assertIn("the snapshot has another form", self.fails("serve"))
+        assert "the snapshot has another form" in self.fails("serve")
 
 
 def fronts_key(place):
@@ -377,22 +354,25 @@ class OverEtcd(unittest.TestCase):
         first = free_ports(30)[9] // 10  # the page writes a member's number behind such a port, and behind the next one
         lines = [line.replace("2379", str(first)).replace("2380", str(first + 1)) for line in members + typed]
         with tempfile.TemporaryDirectory() as folder:
-            text = "\n".join(lines).replace("registryd-etcd ", f"registryd-etcd --program {program.PROGRAM} ").replace("tools/", os.path.join(TOP, "tools", ""))
-            with subprocess.Popen(["sh", "-c", text], cwd=folder, stdout=subprocess.PIPE, text=True, start_new_session=True) as shell:
+            text = "\n".join(lines).replace("registryd-etcd ", f"registryd-etcd --program {program.PROGRAM} ")
+            text = text.replace("tools/", os.path.join(TOP, "tools", ""))
+            with subprocess.Popen(["sh", "-c", text], cwd=folder, stdout=subprocess.PIPE, text=True,
+                                  start_new_session=True) as shell:
                 try:
                     with program.in_time(2 * program.PATIENCE):
                         printed = shell.stdout.read()
                 finally:
                     os.killpg(shell.pid, signal.SIGKILL)
-        self.assertEqual(printed.splitlines(), told)
+        assert printed.splitlines() == told
 
     @skip_without("openssl", "openssl")
     def test_certificates(self):
         """A gate that asks for a certificate is answered with the one that is named, and checked by the one that is."""
         with tempfile.TemporaryDirectory() as folder:
             cert, key = os.path.join(folder, "cert"), os.path.join(folder, "key")
-            subprocess.run(["openssl", "req", "-x509", "-newkey", "rsa:2048", "-nodes", "-subj", "/CN=front", "-addext",
-                            "subjectAltName=IP:127.0.0.1", "-keyout", key, "-out", cert], check=True, capture_output=True)
+            subprocess.run(["openssl", "req", "-x509", "-newkey", "rsa:2048", "-nodes", "-subj", "/CN=front",
+                            "-addext", "subjectAltName=IP:127.0.0.1", "-keyout", key, "-out", cert],
+                           check=True, capture_output=True)
             gate = Gate(SmallEtcd())
             self.addCleanup(gate.close)
             context = ssl.create_default_context(ssl.Purpose.CLIENT_AUTH, cafile=cert)
@@ -400,12 +380,12 @@ class OverEtcd(unittest.TestCase):
             context.verify_mode = ssl.CERT_REQUIRED
             gate.socket = context.wrap_socket(gate.socket, server_side=True)
             url, known = gate.url.replace("http", "https"), ["--cacert", cert]
-            self.assertEqual(fronts.run("found", [url], *known, "--cert", cert, "--key", key).returncode, 0)
+            assert fronts.run("found", [url], *known, "--cert", cert, "--key", key).returncode == 0
             ended = fronts.run("serve", [url], *known, "--cert", cert, "--key", key, given=A1.encode())
-            self.assertEqual((ended.returncode, ended.stdout.decode()), (0, accepted(1) + "\n"))
+            assert (ended.returncode, ended.stdout.decode()) == (0, accepted(1) + "\n")
             for words in known, []:
                 ended = fronts.run("serve", [url], "--patience", "0.2", *words, given=A1.encode())
-                self.assertEqual((ended.returncode, ended.stdout), (1, b""))
+                assert (ended.returncode, ended.stdout) == (1, b"")
 
     @skip_without("etcd", "etcd-server")
     def test_a_history_of_three_fronts_over_three_members(self):
@@ -413,10 +393,6 @@ class OverEtcd(unittest.TestCase):
         self.addCleanup(members.close)
         for seed in (1, 2, 3):
             history = etcd_histories.History(members, seed, 3, 4.0, 10)
-            self.assertIsNone(history.run())
-            self.assertGreaterEqual(history.done["commands accepted"], 3)
+            assert history.run() is None
+            assert history.done["commands accepted"] >= 3
             print(f"({history.done['lines answered']} lines) ", end="")
-
-
-if __name__ == "__main__":
-    unittest.main()

@@ -1,8 +1,9 @@
 """A client begins a front in the program's place, as clients/README.md tells."""
 import os
 import shlex
-import unittest
 from pathlib import Path
+
+import pytest
 
 from registryd import Ended, Registry
 from tests.support import fronts
@@ -16,28 +17,24 @@ class Clients(Case):
 
     def test_two_clients_share_a_journal(self):
         with Registry(self.words(1)) as first, Registry(self.words(2)) as second:
-            self.assertEqual(first.publish("log", "1.3.0"), 1)
-            self.assertEqual(second.publish("app", "1.0.0", {"log": "^1.2"}), 2)
+            assert first.publish("log", "1.3.0") == 1
+            assert second.publish("app", "1.0.0", {"log": "^1.2"}) == 2
             for registry in (first, second):
                 reply = registry.resolve({"app": "^1"})
-                self.assertEqual((reply.revision, reply.selected), (2, {"app": "1.0.0", "log": "1.3.0"}))
-        self.assertEqual(len(self.cells()), 3)
+                assert (reply.revision, reply.selected) == (2, {"app": "1.0.0", "log": "1.3.0"})
+        assert len(self.cells()) == 3
 
     def test_a_script_is_a_program_with_words(self):
         script = Path(self.folder, "front")
         script.write_text(f'#!/bin/sh\nexec {shlex.join(self.words(3))} "$@"\n')
         script.chmod(0o755)
         with Registry(script, workers=2) as registry:
-            self.assertEqual(registry.publish("app", "1.0.0"), 1)
-        self.assertTrue(self.journal().endswith("\nend 1\n"))
+            assert registry.publish("app", "1.0.0") == 1
+        assert self.journal().endswith("\nend 1\n")
 
     def test_it_takes_no_journal_and_no_budget(self):
         for given in ({"journal": Path(self.folder, "a.journal")}, {"budget": 5}):
-            with self.assertRaises(Ended) as caught:
+            with pytest.raises(Ended) as caught:
                 Registry(self.words(1), **given)
-            self.assertEqual(caught.exception.status, 2)
-        self.assertEqual(os.listdir(self.folder), [])
-
-
-if __name__ == "__main__":
-    unittest.main()
+            assert caught.value.status == 2
+        assert os.listdir(self.folder) == []

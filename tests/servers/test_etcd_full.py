@@ -1,9 +1,12 @@
-"""An etcd that is full, and one that answers what no etcd answers: what fronts and `compact` do then. No entry is lost, and what is wrong is
-told in a line."""
+"""An etcd that is full, and one that answers what no etcd answers: what fronts and `compact` do then. No entry is lost,
+and what is wrong is told in a line."""
 import contextlib
+import re
 import unittest
 from base64 import b64encode
 from unittest import mock
+
+import pytest
 
 from registry_etcd.cells import Behind, Cell, Cells
 from registry_etcd.front import Front
@@ -18,7 +21,8 @@ from tests.support.program import PROGRAM, in_time, publish
 ENTRIES = [publish(f"p{number}", "1.0.0") for number in range(20)]
 ONE, MORE = publish("one", "1.0.0"), publish("more", "1.0.0")
 FULL = r"\Aetcd refuses: etcdserver: mvcc: database space exceeded: `registryd-etcd compact` makes room\Z"
-NO_ROOM = r"\Aetcd has no room for a snapshot, even after all that is of no use was deleted: --keep 0 deletes more cells, and etcd's --quota-backend-bytes sets how much it may hold\Z"
+NO_ROOM = (r"\Aetcd has no room for a snapshot, even after all that is of no use was "
+           r"deleted: --keep 0 deletes more cells, and etcd's --quota-backend-bytes sets how much " r"it may hold\Z")
 
 
 class Room(Case):
@@ -38,7 +42,8 @@ class Room(Case):
 
     def enter(self, *lines):
         with self.front() as front:
-            return [reply.decode() for replies in front.answer([Line(number, it.encode()) for number, it in enumerate(lines, 1)]) for reply in replies]
+            return [reply.decode() for replies in front.answer([Line(number, it.encode()) for number,
+                                                                it in enumerate(lines, 1)]) for reply in replies]
 
     def compact(self, kept, *gates):
         with self.front(*gates) as front:
@@ -52,16 +57,17 @@ class Room(Case):
         """The journal, where etcd has no room for a command more, and one was refused for that."""
         journal = self.journal()
         self.etcd.quota = self.etcd.size
-        self.assertRaisesRegex(Full, FULL, self.enter, MORE)
-        self.assertTrue(self.etcd.is_full)
+        with pytest.raises(Full, match=FULL):
+            self.enter(MORE)
+        assert self.etcd.is_full
         return journal
 
     def goes_on(self, journal):
         """Whether the journal is as it was, and takes entries again."""
-        self.assertFalse(self.etcd.is_full)
-        self.assertEqual(self.journal(), journal)
+        assert not self.etcd.is_full
+        assert self.journal() == journal
         place = journal.count(b"\n") - 1
-        self.assertEqual(self.enter(MORE), [accepted(place, place)])
+        assert self.enter(MORE) == [accepted(place, place)]
 
     def with_a_snapshot(self, kept):
         """Enters entries, of which a snapshot is made, and one more. The file is no larger than it has to be."""
@@ -76,7 +82,7 @@ class Room(Case):
         self.done("compact", "--keep", "0")  # that leaves the file as large as it was
         self.done("serve", given=ONE.encode())
         journal = self.filled()
-        self.assertEqual(self.done("compact"), "")
+        assert self.done("compact") == ""
         self.goes_on(journal)
 
     def test_an_alarm_is_taken_back_where_there_is_nothing_new(self):
@@ -89,8 +95,9 @@ class Room(Case):
     def test_cells_for_which_a_snapshot_stands_give_room(self):
         self.with_a_snapshot(kept=1_024)
         journal, cells = self.filled(), self.cells()
-        self.assertRaisesRegex(Fault, NO_ROOM, self.compact, 1_024)
-        self.assertEqual((self.journal(), self.cells()), (journal, cells))
+        with pytest.raises(Fault, match=NO_ROOM):
+            self.compact(1_024)
+        assert (self.journal(), self.cells()) == (journal, cells)
         self.compact(0)
         self.goes_on(journal)
 
@@ -101,15 +108,16 @@ class Room(Case):
         journal = self.journal()
         self.etcd.quota, self.etcd.is_full = self.etcd.size + 300, True  # that is enough for the key, and for no page
         self.compact(0)
-        self.assertNotIn(vain, self.etcd.kept)
+        assert vain not in self.etcd.kept
         self.goes_on(journal)
 
     def test_where_nothing_is_of_no_use_nothing_goes(self):
         self.enter(*ENTRIES)
         journal, kept = self.filled(), dict(self.etcd.kept)
-        self.assertRaisesRegex(Fault, NO_ROOM, self.compact, 0)
-        self.assertEqual({key: row for key, row in self.etcd.kept.items() if key in kept}, kept)
-        self.assertEqual(self.journal(), journal)
+        with pytest.raises(Fault, match=NO_ROOM):
+            self.compact(0)
+        assert {key: row for key, row in self.etcd.kept.items() if key in kept} == kept
+        assert self.journal() == journal
         self.etcd.quota *= 2  # its members were begun anew with a larger one
         self.compact(0)
         self.goes_on(journal)
@@ -121,7 +129,8 @@ class Room(Case):
             asked, most = [], 0
             while len(asked) >= most:
                 self.gate.behind = self.etcd = before.copy()
-                self.etcd.quota, self.etcd.size, self.etcd.is_full, asked, most = before.quota, before.size, True, [], most + 1
+                self.etcd.quota, self.etcd.size, self.etcd.is_full = before.quota, before.size, True
+                asked, most = [], most + 1
 
                 def broken(made, path, *more, asked=asked, most=most):
                     asked.append(path)
@@ -131,9 +140,10 @@ class Room(Case):
                     return done
                 with mock.patch.object(Gateway, "post", broken), contextlib.suppress(Fault):
                     self.compact(0)
-                self.assertEqual(self.journal(), journal, asked)
+                assert self.journal() == journal, asked
             self.goes_on(journal)
-            self.assertEqual(set(asked), {"/v3/kv/range", "/v3/kv/txn", "/v3/kv/put", "/v3/kv/compaction", "/v3/maintenance/alarm", "/v3/maintenance/defragment"})
+            assert set(asked) == {"/v3/kv/range", "/v3/kv/txn", "/v3/kv/put",
+                                  "/v3/kv/compaction", "/v3/maintenance/alarm", "/v3/maintenance/defragment"}
 
     def test_who_is_about_to_turn_to_pages_that_go_does_not(self):
         self.enter(*ENTRIES)
@@ -142,8 +152,8 @@ class Room(Case):
             _, revision = one.snapshots.head()
             head = one.snapshots.write_pages(one.stands)
             other.snapshots.drop_pages()
-            self.assertEqual(one.snapshots.turn_to(head, revision, one.snapshots.other_pages(head)), 0)
-        self.assertEqual(self.journal(), journal)
+            assert one.snapshots.turn_to(head, revision, one.snapshots.other_pages(head)) == 0
+        assert self.journal() == journal
 
     def test_a_member_that_does_not_give_back_is_passed_over(self):
         def hook(moment, path, _):
@@ -158,14 +168,16 @@ class Room(Case):
 
 
 def cell(**more):
-    return {"key": b64encode(b"registry/cells/00000000").decode(), "mod_revision": "2", "version": "1", "value": "e30=", **more}
+    return {"key": b64encode(b"registry/cells/00000000").decode(), "mod_revision": "2", "version": "1",
+            "value": "e30=", **more}
 
 
 class Nonsense(unittest.TestCase):
     """Each request is answered by the same."""
-    ODD = ([], {"kvs": 5}, {"kvs": [5]}, {"kvs": [{}]}, {"kvs": [cell(value="%")]}, {"kvs": [cell(value="e")]}, {"kvs": [cell(value=7)]},
-           {"kvs": [cell(mod_revision="x")]}, {"kvs": [cell(value="W10=")]}, {"succeeded": True}, {"responses": []}, {"responses": [5]}, {"kvs": [cell(key="\x1b")]},
-           {"alarms": 5}, {"alarms": [{}]}, {"events": [{}]}, {"events": 7})
+    ODD = ([], {"kvs": 5}, {"kvs": [5]}, {"kvs": [{}]}, {"kvs": [cell(value="%")]}, {"kvs": [cell(value="e")]},
+           {"kvs": [cell(value=7)]}, {"kvs": [cell(mod_revision="x")]}, {"kvs": [cell(value="W10=")]},
+           {"succeeded": True}, {"responses": []}, {"responses": [5]}, {"kvs": [cell(key="\x1b")]}, {"alarms": 5},
+           {"alarms": [{}]}, {"events": [{}]}, {"events": 7})
 
     def setUp(self):
         self.enterContext(in_time())
@@ -180,10 +192,12 @@ class Nonsense(unittest.TestCase):
         return [self.told]
 
     def test_a_command_tells_it_in_a_line(self):
-        for self.told, what in (([], "compact"), ({"kvs": [{}]}, "serve"), ({"kvs": [cell(value="%")]}, "journal"), ({"kvs": [cell(mod_revision="\x1b")]}, "found")):
+        for self.told, what in (([], "compact"), ({"kvs": [{}]}, "serve"), ({"kvs": [cell(value="%")]}, "journal"),
+                                ({"kvs": [cell(mod_revision="\x1b")]}, "found")):
             done = fronts.run(what, [self.gate.url], "--patience", "0.2")
-            self.assertEqual((done.returncode, done.stdout), (1, b""))
-            self.assertRegex(done.stderr.decode(), r"\Aregistryd-etcd: (no member of etcd answers, .*is no answer of etcd|etcd's answer does not have the form[^\x1b\n]*)\n\Z")
+            assert (done.returncode, done.stdout) == (1, b"")
+            assert re.search(r"\Aregistryd-etcd: (no member of etcd answers, .*is no answer of "
+                             r"etcd|etcd's answer does not have the form[^\x1b\n]*)\n\Z", done.stderr.decode())
 
     def test_each_part_that_asks(self):
         stands, entry = Standing("j", Cell(1, None, None)), mock.Mock(command=b"{}", seat=1, serial=1, writer="w")
@@ -191,19 +205,13 @@ class Nonsense(unittest.TestCase):
             made = Gateway(endpoints(self.gate.url), patience=0.02)
             cells = Cells(made, "registry")
             snapshots = Snapshots(cells)
-            for ask in (snapshots.read, lambda: snapshots.found([]), lambda: snapshots.renew(stands, 0), lambda: snapshots.compact(stands, 0), snapshots.drop_pages,
-                        lambda: snapshots.drop_cells(0), snapshots.give_back, lambda: list(cells.pages(stands.last)), lambda: cells.put(stands.last, [entry]),
+            for ask in (snapshots.read, lambda: snapshots.found([]), lambda: snapshots.renew(stands, 0),
+                        lambda: snapshots.compact(stands, 0), snapshots.drop_pages,
+                        lambda: snapshots.drop_cells(0), snapshots.give_back,
+                        lambda: list(cells.pages(stands.last)), lambda: cells.put(stands.last, [entry]),
                         made.full_members):
                 with contextlib.suppress(Fault, Unanswered, Behind):  # any other exception fails this test
                     ask()
             with contextlib.suppress(Fault, Unanswered), contextlib.closing(cells.watch()) as seen:
                 next(seen)
             made.leave()
-
-    def test_what_is_no_object(self):
-        for self.told in ([], 5, "text", None):
-            self.assertRaisesRegex(Unanswered, r" is no answer of etcd\Z", Gateway(endpoints(self.gate.url)).once, "/v3/kv/range", {})
-
-
-if __name__ == "__main__":
-    unittest.main()

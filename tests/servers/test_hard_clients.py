@@ -1,10 +1,12 @@
-"""Clients of a service that ask hard requests without pause, beside one that asks easy ones. `dev/long/hard_clients.py` does so for longer."""
+"""Clients of a service that ask hard requests without pause, beside one that asks easy ones. `dev/long/hard_clients.py`
+does so for longer."""
 import contextlib
 import io
 import os
+import re
 import subprocess
 import tempfile
-from unittest import main, mock
+from unittest import mock
 
 from dev.long import hard_clients
 from tests.support import services
@@ -60,9 +62,9 @@ class Beside(services.Case):
             service = self.begin_scripted()
             with self.subTest(hard), hard_clients.Hard(service, slow(0.6), **hard):
                 count, greatest, wrong = hard_clients.easy(service, 3, self.LIMIT)
-                self.assertIsNone(wrong)
-                self.assertLess(greatest, self.LIMIT + 1)
-                self.assertGreater(count, 2)
+                assert wrong is None
+                assert greatest < self.LIMIT + 1
+                assert count > 2
             self.ends_well(service)
 
     def test_one_whose_requests_wait_is_answered_in_turn(self):
@@ -71,26 +73,23 @@ class Beside(services.Case):
         with service.client() as many, service.client() as other:
             many.send(*[slow(0.3)] * 64)
             for _ in range(3):
-                self.assertIn("selected", other.ask(hard_clients.EASY)[0])
+                assert "selected" in other.ask(hard_clients.EASY)[0]
             many.socket.setblocking(False)
             with contextlib.suppress(BlockingIOError):
                 many.read += many.socket.recv(65_536)
-            self.assertLess(many.read.count(b"\n"), 64)
+            assert many.read.count(b"\n") < 64
 
     def test_what_is_late_or_wrong_is_found(self):
         service = self.begin_scripted()
         for limit, holds in ((self.LIMIT, True), (-1, False)):
             with contextlib.redirect_stdout(io.StringIO()) as said:
-                self.assertIs(hard_clients.tried(service, "one", 0.5, limit, line=slow(0.1)), holds)
-            self.assertRegex(said.getvalue(), r"\Aone +[0-9]+ easy replies, the slowest after [0-9.]+ s; hard: [0-9]+ answered, 0 out of time; [0-9]+ restarts\n\Z")
+                assert hard_clients.tried(service, "one", 0.5, limit, line=slow(0.1)) is holds
+            assert re.search(r"\Aone +[0-9]+ easy replies, the slowest after [0-9.]+ s; hard: "
+                             r"[0-9]+ answered, 0 out of time; [0-9]+ restarts\n\Z", said.getvalue())
         count, _, wrong = hard_clients.easy(service, 1, self.LIMIT, wanted="hole-2")
-        self.assertEqual((count, wrong), (1, '{"revision":0,"selected":[["hole-1","1.0.0"]]}'))
+        assert (count, wrong) == (1, '{"revision":0,"selected":[["hole-1","1.0.0"]]}')
 
     def test_beside_true_searches(self):
         with contextlib.redirect_stdout(io.StringIO()) as said:
-            self.assertEqual(hard_clients.main(["--minutes", "0.1"]), 0, said.getvalue())
-        self.assertEqual(said.getvalue().count(" easy replies, the slowest after "), 4)
-
-
-if __name__ == "__main__":
-    main()
+            assert hard_clients.main(["--minutes", "0.1"]) == 0, said.getvalue()
+        assert said.getvalue().count(" easy replies, the slowest after ") == 4

@@ -26,27 +26,30 @@ class Case(unittest.TestCase):
         """Each has addresses of its own, and what it leaves is nothing."""
         runs = [Members(1, divided=True, folder=self.folder) for _ in range(2)]
         names = [it.namespace(0) for it in runs]
-        self.assertEqual(len({url for it in runs for url in it.clients}), 2)
+        assert len({url for it in runs for url in it.clients}) == 2
         for run in runs:
             run.close()
         left = {*Path("/sys/class/net").iterdir(), *Path("/run/netns").iterdir()}
-        self.assertEqual([it for it in left if it.name in {*names, *(run.bridge for run in runs)}], [])
-        self.assertEqual(os.listdir(self.folder), [])
+        assert [it for it in left if it.name in {*names, *(run.bridge for run in runs)}] == []
+        assert os.listdir(self.folder) == []
 
     @skip_without("etcd", "etcd-server")
     def test_no_member_begins_again_once_they_are_ended(self):
         members = Members(1, folder=self.folder)
         members.close()
         members.start(0)
-        self.assertIsNotNone(members.children[0].poll())
-        self.assertEqual(os.listdir(self.folder), [])
+        assert members.children[0].poll() is not None
+        assert os.listdir(self.folder) == []
 
     @skip_without("etcd", "etcd-server")
     def test_a_run_that_is_stopped(self):
-        """It ends soon, though clients ask for a minute more and something goes wrong all the time, and its members with it."""
-        words = [sys.executable, program.TOP, HISTORIES, "--loopback", "--histories", "1", "--seconds", "60", "--seed", "2"]
-        with subprocess.Popen(words, stdout=subprocess.PIPE, stderr=subprocess.PIPE, cwd=self.folder, preexec_fn=program.heed_signals,
-                              env={**os.environ, "REGISTRYD": program.PROGRAM}) as run:
+        """It ends soon, though clients ask for a minute more and something goes wrong all the time, and its
+        members with it."""
+        words = [sys.executable, program.TOP, HISTORIES, "--loopback", "--histories", "1", "--seconds", "60",
+                 "--seed", "2"]
+        with subprocess.Popen(words, stdout=subprocess.PIPE, stderr=subprocess.PIPE, cwd=self.folder,
+                              preexec_fn=program.heed_signals, env={**os.environ,
+                                                                    "REGISTRYD": program.PROGRAM}) as run:
             run.stdout.readline()
             # its fronts have begun, and are asked
             wait_for(lambda: len(self.of(run.pid, "--seat")) == 4)
@@ -54,9 +57,9 @@ class Case(unittest.TestCase):
             members = self.of(run.pid, "--data-dir")
             run.terminate()
             printed, said = run.communicate()
-        self.assertEqual((run.returncode, printed, said), (1, b"", b""))
-        self.assertNotEqual(members, [])
-        self.assertEqual([it for it in members if Path(it).parent.exists()], [])
+        assert (run.returncode, printed, said) == (1, b"", b"")
+        assert members != []
+        assert [it for it in members if Path(it).parent.exists()] == []
 
     @staticmethod
     def of(process, option):
@@ -70,7 +73,3 @@ class Case(unittest.TestCase):
             except OSError:
                 pass
         return found
-
-
-if __name__ == "__main__":
-    unittest.main()

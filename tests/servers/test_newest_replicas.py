@@ -1,6 +1,6 @@
-"""Fronts over etcd whose replicas learnt differently, since they were asked other requests in other orders: at one place they select the same."""
+"""Fronts over etcd whose replicas learnt differently, since they were asked other requests in other orders: at one
+place they select the same."""
 import json
-import unittest
 
 from bench import workloads
 from tests.support import over_small_etcd
@@ -15,8 +15,9 @@ def body(reply):
 
 class Replicas(over_small_etcd.Case):
     def answers(self, seed):
-        """What three fronts answer to the same requests at one place: the first was asked nothing before, the second each of them alone, and the
-        third each alone in the other order, before a last command that changes none of them."""
+        """What three fronts answer to the same requests at one place: the first was asked nothing before, the second
+        each of them alone, and the third each alone in the other order, before a last command that changes none of
+        them."""
         lines, requests = workloads.conflicting(12, seed)
         self.etcd = self.founded.copy()
         gate = self.opened()
@@ -28,7 +29,7 @@ class Replicas(over_small_etcd.Case):
             fronts[2].ask(request)
         fronts[0].ask('{"op":"publish","name":"aside","version":"1.0.0","needs":[]}')
         replies = [front.ask(*requests) for front in fronts]
-        self.assertEqual({json.loads(it)["place"] for told in replies for it in told}, {len(lines) + 1})
+        assert {json.loads(it)["place"] for told in replies for it in told} == {len(lines) + 1}
         for front in fronts:
             self.ended(front)
         return [[body(it) for it in told] for told in replies]
@@ -36,10 +37,6 @@ class Replicas(over_small_etcd.Case):
     def test_what_was_learnt_does_not_matter(self):
         for seed in (1, 2):
             first, second, third = self.answers(seed)
-            self.assertGreater(sum("selected" in it for it in first), 10)
-            self.assertEqual(second, first)
-            self.assertEqual(third, first)
-
-
-if __name__ == "__main__":
-    unittest.main()
+            assert sum("selected" in it for it in first) > 10
+            assert second == first
+            assert third == first

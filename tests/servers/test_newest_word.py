@@ -1,7 +1,6 @@
-"""Each selection is the newest, and `--newest` has no effect: in each subcommand of `registry` that selects, in its shell, on its page, by its
-service, and by a front over etcd."""
+"""Each selection is the newest, and `--newest` has no effect: in each subcommand of `registry` that selects, in its
+shell, on its page, by its service, and by a front over etcd."""
 import json
-import unittest
 
 from tests.support import over_small_etcd, services
 from tests.support.page_served import Served
@@ -21,21 +20,21 @@ class Subcommands(Folder):
     def test_resolve_tree_and_why(self):
         title = "a *, b *: selected at revision 5\n"
         for words in WAYS:
-            self.assertEqual(self.registry("resolve", *NEEDS, *words), (0, LINES, ""))
-            self.assertEqual(self.registry("tree", *NEEDS, *words), (0, "a 3.0.0\n└── b 1.0.0\nb 1.0.0\n", ""))
-            self.assertEqual(self.registry("why", *NEEDS, *words), (0, title + "  a 3.0.0\n  b 1.0.0\n", ""))
+            assert self.registry("resolve", *NEEDS, *words) == (0, LINES, "")
+            assert self.registry("tree", *NEEDS, *words) == (0, "a 3.0.0\n└── b 1.0.0\nb 1.0.0\n", "")
+            assert self.registry("why", *NEEDS, *words) == (0, title + "  a 3.0.0\n  b 1.0.0\n", "")
 
     def test_upgrade_and_outdated(self):
         for words in WAYS:
             lock = self.path("registry.lock", '[["a","1.0.0"],["b","1.0.0"]]')
             self.path("registry.needs", "a\nb\n")
             told = json.loads(self.registry("outdated", "--lock", lock, "--json", *words)[1])
-            self.assertEqual({it["name"]: it["allowed"] for it in told}, NEWEST)
-            self.assertEqual(self.registry("upgrade", "--lock", lock, "--yes", *words)[0], 0)
-            self.assertEqual(dict(json.loads(self.text("registry.lock"))), NEWEST)
+            assert {it["name"]: it["allowed"] for it in told} == NEWEST
+            assert self.registry("upgrade", "--lock", lock, "--yes", *words)[0] == 0
+            assert dict(json.loads(self.text("registry.lock"))) == NEWEST
 
     def test_a_shell(self):
-        self.assertEqual(self.registry("shell", given="resolve a b\nresolve a b --newest\n"), (0, LINES * 2, ""))
+        assert self.registry("shell", given="resolve a b\nresolve a b --newest\n") == (0, LINES * 2, "")
 
 
 class Page(Served):
@@ -43,7 +42,7 @@ class Page(Served):
         self.hold(*PUBLICATIONS)
         self.serve()
         told = self.told("resolve", need=["a", "b"])
-        self.assertEqual({it["name"]: it["version"] for it in told["selected"]}, NEWEST)
+        assert {it["name"]: it["version"] for it in told["selected"]} == NEWEST
 
 
 class Service(services.Case):
@@ -55,7 +54,7 @@ class Service(services.Case):
                 if not words:
                     client.ask(*PUBLICATIONS)
                 # more than one reader answers
-                self.assertEqual(client.ask(*[resolve("a *", "b *")] * 8), [wanted] * 8)
+                assert client.ask(*[resolve("a *", "b *")] * 8) == [wanted] * 8
             self.ends_well(service)
 
 
@@ -65,8 +64,5 @@ class Front(over_small_etcd.Case):
         fronts[0][1].ask(*PUBLICATIONS)
         for seat, front in fronts:
             pairs = ",".join(f'["{name}","{version}"]' for name, version in NEWEST.items())
-            self.assertEqual(front.ask(resolve("a *", "b *")), ['{"place":5,"revision":5,"seat":%d,"selected":[%s]}' % (seat, pairs)])
-
-
-if __name__ == "__main__":
-    unittest.main()
+            assert front.ask(resolve("a *", "b *")) == ['{"place":5,"revision":5,"seat":%d,"selected":[%s]}'
+                                                        % (seat, pairs)]

@@ -1,9 +1,9 @@
-"""`registry log`: what it tells of a journal's file and of a service, and what it goes on to tell while it follows one."""
+"""`registry log`: what it tells of a journal's file and of a service, and what it goes on to tell while it follows
+one."""
 import json
 import re
 import subprocess
 import sys
-import unittest
 from pathlib import Path
 
 from tests.program.test_journals import journal
@@ -23,7 +23,8 @@ class Log(Case):
 
     def follow(self, *words):
         """One that follows, and whose lines are read as they come."""
-        running = self.enterContext(subprocess.Popen([sys.executable, f"{TOP}/registry", "log", "--follow", *map(str, words)], stdout=subprocess.PIPE, text=True,
+        running = self.enterContext(subprocess.Popen([sys.executable, f"{TOP}/registry", "log", "--follow",
+                                                      *map(str, words)], stdout=subprocess.PIPE, text=True,
                                                      preexec_fn=heed_signals, env={"REGISTRY_PROGRAM": PROGRAM}))
         self.addCleanup(running.kill)
         return running.stdout
@@ -32,48 +33,46 @@ class Log(Case):
         self.path.write_bytes(journal(LINES))
         told = [f"{revision} - {said}\n" for revision, said in enumerate(TOLD, 1)]
         for words, first in (([], 0), (["--after", 0], 0), (["--after", 2], 2), (["--after", 3], 3)):
-            self.assertEqual(registry("log", "--journal", self.path, *words), (0, "".join(told[first:]), ""))
-        self.assertEqual(registry("log", "--journal", self.path, "--after", 4), (3, "", f"registry: {self.path} is at revision 3\n"))
+            assert registry("log", "--journal", self.path, *words) == (0, "".join(told[first:]), "")
+        told = f"registry: {self.path} is at revision 3\n"
+        assert registry("log", "--journal", self.path, "--after", 4) == (3, "", told)
         values = [{"revision": revision, "time": None, **json.loads(line)} for revision, line in enumerate(LINES, 1)]
-        self.assertEqual([json.loads(it) for it in registry("log", "--journal", self.path, "--json")[1].splitlines()], values)
-        self.assertEqual(registry("log", "--journal", self.path.with_name("none"))[0], 3)
+        assert [json.loads(it) for it in registry("log", "--journal", self.path, "--json")[1].splitlines()] == values
+        assert registry("log", "--journal", self.path.with_name("none"))[0] == 3
 
     def test_a_file_that_is_followed(self):
         self.path.write_bytes(journal(LINES[:1]))
         said = self.follow("--journal", self.path)
-        self.assertEqual(said.readline(), f"1 - {TOLD[0]}\n")
-        for words, told in ((["publish", "app", "1.0.0", "log@^1.2", "zlib"], TOLD[1]), (["yank", "log", "1.3.0"], TOLD[2])):
-            self.assertEqual(registry(*words, "--journal", self.path)[0], 0)
-            self.assertRegex(said.readline(), rf"\A[23] {TIME} {re.escape(told)}\n\Z")
+        assert said.readline() == f"1 - {TOLD[0]}\n"
+        for words, told in ((["publish", "app", "1.0.0", "log@^1.2", "zlib"], TOLD[1]),
+                            (["yank", "log", "1.3.0"], TOLD[2])):
+            assert registry(*words, "--journal", self.path)[0] == 0
+            assert re.search(rf"\A[23] {TIME} {re.escape(told)}\n\Z", said.readline())
 
     def test_a_service_knows_when_it_accepted_what(self):
         self.path.write_bytes(journal(LINES[:1]))
         service = self.begin()
         said = self.follow("--connect", service.socket)
-        self.assertEqual(said.readline(), f"1 - {TOLD[0]}\n")
+        assert said.readline() == f"1 - {TOLD[0]}\n"
         with service.client() as client:
             client.ask(LINES[1], LINES[0])
             second = said.readline()
             client.ask(LINES[2])
-        self.assertRegex(second, rf"\A2 {TIME} {re.escape(TOLD[1])}\n\Z")
+        assert re.search(rf"\A2 {TIME} {re.escape(TOLD[1])}\n\Z", second)
         third = said.readline()
-        self.assertEqual(registry("log", "--connect", service.socket), (0, f"1 - {TOLD[0]}\n{second}{third}", ""))
+        assert registry("log", "--connect", service.socket) == (0, f"1 - {TOLD[0]}\n{second}{third}", "")
         # the times stay, whatever becomes of the program that keeps the journal
         service.kill_keeper()
         with service.client() as client:
             client.ask(publish("zlib", "1.0.0"))  # it waits for the next one
         fourth = said.readline()
-        self.assertRegex(fourth, rf"\A4 {TIME} publish zlib 1\.0\.0\n\Z")
-        self.assertEqual(registry("log", "--connect", service.socket, "--after", 2)[1], third + fourth)
-        self.assertEqual(registry("log", "--connect", service.socket, "--after", 5)[0], 3)
+        assert re.search(rf"\A4 {TIME} publish zlib 1\.0\.0\n\Z", fourth)
+        assert registry("log", "--connect", service.socket, "--after", 2)[1] == third + fourth
+        assert registry("log", "--connect", service.socket, "--after", 5)[0] == 3
         # one that is begun again is waited for
         service.end()
         service = self.begin()
         with service.client() as client:
             client.ask(publish("web", "1.0.0"))
-        self.assertRegex(said.readline(), rf"\A5 {TIME} publish web 1\.0\.0\n\Z")
-        self.assertEqual(registry("log", "--connect", service.socket, "--after", 3)[1].splitlines()[0], "4 - publish zlib 1.0.0")
-
-
-if __name__ == "__main__":
-    unittest.main()
+        assert re.search(rf"\A5 {TIME} publish web 1\.0\.0\n\Z", said.readline())
+        assert registry("log", "--connect", service.socket, "--after", 3)[1].splitlines()[0] == "4 - publish zlib 1.0.0"

@@ -1,7 +1,7 @@
-"""What docs/REGISTRY_COMMAND.md tells to type prints what it says, and it tells of each subcommand, status and variable."""
+"""What docs/REGISTRY_COMMAND.md tells to type prints what it says, and it tells of each subcommand, status and
+variable."""
 import re
 import tempfile
-import unittest
 
 from registry_cli import manual, table
 from tests.program.test_readme import answers, blocks, page
@@ -9,26 +9,23 @@ from tests.program.test_readme import answers, blocks, page
 PAGE = "docs/REGISTRY_COMMAND.md"
 
 
-class Page(unittest.TestCase):
+class TestPage:
     LONGEST = 300  # each command of the page starts Python, one after the other
 
     def test_what_is_typed_prints_what_is_told(self):
         shown = blocks(PAGE)
-        self.assertEqual(len(shown), 18)
+        assert len(shown) == 18
         with tempfile.TemporaryDirectory() as folder:
             for typed, told in zip(shown[::2], shown[1::2]):
-                self.assertEqual(answers(folder, ["exec 2>&1", *typed])[0], told)
+                assert answers(folder, ["exec 2>&1", *typed])[0] == told
 
     def test_it_tells_of_all(self):
         text = page(PAGE)
         for it in table.SUBCOMMANDS:
             first = it.name.split(" ")[0]
-            self.assertTrue(re.search(rf"registry {first}\b|`{first}\b", text) or "IMPORTING.md" in text and first == "import", it.name)
+            assert re.search(rf"registry {first}\b|`{first}\b",
+                             text) or "IMPORTING.md" in text and first == "import", it.name
         for status, _ in manual.STATUSES:
-            self.assertRegex(text, rf"(?m)^\| (?:\d+, )?{status}(?:, \d+)? \|")
+            assert re.search(rf"(?m)^\| (?:\d+, )?{status}(?:, \d+)? \|", text)
         for name, _ in manual.VARIABLES:
-            self.assertIn(f"| `{name}` |", text)
-
-
-if __name__ == "__main__":
-    unittest.main()
+            assert f"| `{name}` |" in text

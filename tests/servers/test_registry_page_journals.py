@@ -6,7 +6,6 @@ import signal
 import subprocess
 import threading
 import time
-import unittest
 from unittest import mock
 
 from tests.support.called import registry
@@ -18,48 +17,48 @@ from tests.support.registry_folder import pigeons
 class Journals(Served):
     def test_it_grows(self):
         self.serve(*WORKED)
-        self.assertEqual(registry("publish", "--journal", self.journal, "apps", "1.0.0")[0], 0)
-        self.assertEqual(self.told("package", name="apps")["newest"], None)  # what is shown stays until one looks
+        assert registry("publish", "--journal", self.journal, "apps", "1.0.0")[0] == 0
+        assert self.told("package", name="apps")["newest"] is None  # what is shown stays until one looks
         told = self.told("status")
-        self.assertEqual((told["revision"], told["packages"]), (10, 5))
-        self.assertEqual(self.told("package", name="apps")["newest"], "1.0.0")
-        self.assertEqual(self.told("resolve", need="web")["selected"][0]["name"], "apps")
+        assert (told["revision"], told["packages"]) == (10, 5)
+        assert self.told("package", name="apps")["newest"] == "1.0.0"
+        assert self.told("resolve", need="web")["selected"][0]["name"] == "apps"
 
     def test_another_session_holds_it(self):
         with talking(["serve", "--workers", "1", f"--journal={self.journal}"]) as client:
             client.stdin.write(b"".join(it.encode() + b"\n" for it in WORKED))
             for _ in WORKED:
-                self.assertIn(b'"ok":true', client.stdout.readline())
+                assert b'"ok":true' in client.stdout.readline()
             self.serve()
-            self.assertEqual(self.told("status")["revision"], 9)
+            assert self.told("status")["revision"] == 9
             client.stdin.write(publish("late", "1.0.0").encode() + b"\n")
-            self.assertIn(b'"ok":true', client.stdout.readline())
-            self.assertEqual(self.told("status")["revision"], 10)
-            self.assertEqual(self.told("search", text="late")["found"], 1)
+            assert b'"ok":true' in client.stdout.readline()
+            assert self.told("status")["revision"] == 10
+            assert self.told("search", text="late")["found"] == 1
 
     def test_it_is_damaged_or_gone(self):
         self.serve(*WORKED)
         good = self.text("registry.journal")
         self.path("registry.journal", good.replace('"version":"1.2.0"', '"version":"1.2"'))
         told = self.told("status")
-        self.assertEqual(told["revision"], 9)
-        self.assertIn("is at fault", told["fault"])
-        self.assertEqual(self.told("package", name="log")["newest"], "1.2.0")
+        assert told["revision"] == 9
+        assert "is at fault" in told["fault"]
+        assert self.told("package", name="log")["newest"] == "1.2.0"
         os.remove(self.journal)
-        self.assertIn("no such journal", self.told("status")["fault"])
+        assert "no such journal" in self.told("status")["fault"]
         self.path("registry.journal", good)
-        self.assertEqual((self.told("status")["fault"], len(self.told("resolve", need="app")["selected"])), ("", 3))
+        assert (self.told("status")["fault"], len(self.told("resolve", need="app")["selected"])) == ("", 3)
 
     def test_programs_end_with_what_they_were_begun_for(self):
         self.serve(*WORKED)
         first = self.shown.view.session.process
-        self.assertEqual(registry("publish", "--journal", self.journal, "late", "1.0.0")[0], 0)
+        assert registry("publish", "--journal", self.journal, "late", "1.0.0")[0] == 0
         self.told("status")
-        self.assertIsNotNone(first.poll())
-        self.assertIsNone(self.shown.view.session.process.poll())
+        assert first.poll() is not None
+        assert self.shown.view.session.process.poll() is None
         self.shown.view.session.process.kill()
-        self.assertIn("ended with status -9", self.told("resolve", 500, need="late")["error"])
-        self.assertEqual(len(self.told("resolve", need="late")["selected"]), 1)
+        assert "ended with status -9" in self.told("resolve", 500, need="late")["error"]
+        assert len(self.told("resolve", need="late")["selected"]) == 1
 
 
 class Searches(Served):
@@ -73,7 +72,8 @@ class Searches(Served):
     def begun(self, page):
         """Begins the search; answers the list that its answer comes into, and what waits for that."""
         answers = []
-        thread = threading.Thread(target=lambda: answers.append(self.ask("/api/resolve?" + "&".join(f"need={it}" for it in self.needs) + f"&page={page}")))
+        asked = "&".join([*(f"need={it}" for it in self.needs), f"page={page}"])
+        thread = threading.Thread(target=lambda: answers.append(self.ask(f"/api/resolve?{asked}")))
         thread.start()
         with in_time():
             while self.shown.running is None:
@@ -84,60 +84,62 @@ class Searches(Served):
         self.serve(*self.lines, seconds=0.5)
         with in_time():
             told = self.told("resolve", 503, need=self.needs)
-        self.assertEqual(told, {"error": "no answer was found in 0.5 seconds, and the search was ended", "field": None})
+        assert told == {"error": "no answer was found in 0.5 seconds, and the search was ended", "field": None}
         self.shown.seconds = 60
-        self.assertEqual(len(self.told("resolve", need="easy")["selected"]), 1)
+        assert len(self.told("resolve", need="easy")["selected"]) == 1
 
     def test_the_next_one_of_a_page_ends_it(self):
         self.serve(*self.lines)
         answers, thread = self.begun("one")
         with in_time():
-            self.assertEqual(len(self.told("resolve", need="easy", page="one")["selected"]), 1)
+            assert len(self.told("resolve", need="easy", page="one")["selected"]) == 1
             thread.join()
-        self.assertEqual((answers[0][0], json.loads(answers[0][2])), (503, {"error": "another request came from the same page", "field": None}))
+        assert (answers[0][0], json.loads(answers[0][2])) == (503,
+                                                              {"error": "another request came from the same page",
+                                                               "field": None})
 
     def test_another_page_waits_and_all_else_is_answered(self):
         self.serve(*self.lines, seconds=5)
         answers, thread = self.begun("one")
         self.shown.seconds = 60  # of those that come now
         with in_time():
-            self.assertEqual(self.told("search", text="easy")["found"], 1)
-            self.assertEqual(self.told("status")["revision"], len(self.lines))
-            self.assertTrue(self.shown.running and not answers)
-            self.assertEqual(len(self.told("resolve", need="easy", page="two")["selected"]), 1)
+            assert self.told("search", text="easy")["found"] == 1
+            assert self.told("status")["revision"] == len(self.lines)
+            assert self.shown.running and not answers
+            assert len(self.told("resolve", need="easy", page="two")["selected"]) == 1
             thread.join()
-        self.assertEqual((answers[0][0], json.loads(answers[0][2])["error"]), (503, "no answer was found in 5 seconds, and the search was ended"))
+        assert (answers[0][0],
+                json.loads(answers[0][2])["error"]) == (503,
+                                                        "no answer was found in 5 seconds, and the search was ended")
 
 
 class Command(Served):
     def begun(self, *words):
         command = [os.path.join(TOP, "registry"), "--journal", self.journal, "page", *words]
-        return subprocess.Popen(command, stdout=subprocess.PIPE, stderr=subprocess.PIPE, text=True, env={**os.environ, "REGISTRY_PROGRAM": PROGRAM},
-                                preexec_fn=heed_signals)
+        return subprocess.Popen(command, stdout=subprocess.PIPE, stderr=subprocess.PIPE, text=True,
+                                env={**os.environ, "REGISTRY_PROGRAM": PROGRAM}, preexec_fn=heed_signals)
 
     def test_it_shows_the_journal_until_a_key_ends_it(self):
         self.hold(*WORKED)
         for words, ends, status in (([], signal.SIGINT, 130), (["--json"], signal.SIGTERM, 143)):
             with in_time(), self.begun(*words) as running:
                 line = running.stdout.readline()
-                port = json.loads(line)["port"] if words else int(re.fullmatch(r"http://127\.0\.0\.1:(\d+)/\n", line)[1])
+                port = json.loads(line)["port"] if words else int(re.fullmatch(r"http://127\.0\.0\.1:(\d+)/\n",
+                        line)[1])
                 self.server = mock.Mock(port=port)
-                self.assertEqual(self.told("status")["revision"], 9)
+                assert self.told("status")["revision"] == 9
                 taken = self.registry("page", "--port", port)
                 running.send_signal(ends)
-                self.assertEqual(running.wait(), status)
+                assert running.wait() == status
                 said = running.stderr.read()
-            self.assertEqual((taken[0], taken[2].count("\n")), (3, 1))
-            self.assertIn(f"port {port} can't be taken", taken[2])
-            self.assertEqual(said, "" if words else f"registry: {self.journal} is shown there, to this machine only; Ctrl-C ends it\n")
+            assert (taken[0], taken[2].count("\n")) == (3, 1)
+            assert f"port {port} can't be taken" in taken[2]
+            assert said == ("" if words
+                            else f"registry: {self.journal} is shown there, to this machine only; Ctrl-C ends it\n")
 
     def test_words(self):
-        self.assertEqual(self.registry("page")[0], 3)  # there is no journal
+        assert self.registry("page")[0] == 3  # there is no journal
         self.hold(*WORKED)
         for words in (["--port", "65536"], ["--port", "x"], ["--seconds", "0"], ["log"]):
             status, said, fault = self.registry("page", *words)
-            self.assertEqual((status, said, fault.count("\n")), (2, "", 1), words)
-
-
-if __name__ == "__main__":
-    unittest.main()
+            assert (status, said, fault.count("\n")) == (2, "", 1), words

@@ -1,5 +1,5 @@
-"""A service whose disk is full, or fails: commands are refused with the reason at once, and never accepted later; all else goes on, and once
-the journal can be written again so do commands."""
+"""A service whose disk is full, or fails: commands are refused with the reason at once, and never accepted later; all
+else goes on, and once the journal can be written again so do commands."""
 import contextlib
 import json
 import os
@@ -8,9 +8,10 @@ import signal
 import subprocess
 import threading
 import time
-import unittest
 from pathlib import Path
 from unittest import mock
+
+import pytest
 
 import registryd
 from tests.program.test_durable_full import small_disk
@@ -33,25 +34,28 @@ def refused(reason, revision):
 
 class Faulty(Case):
     def is_told(self, service, client, reason, revision):
-        """Commands are refused, and it is told why, at each moment; all else is as always, and the program is not begun again and again."""
+        """Commands are refused, and it is told why, at each moment; all else is as always, and the program is
+        not begun again and again."""
         for number in range(POLLS):
-            self.assertEqual(service.get("/health"), (503, reason + "\n"))
-            self.assertEqual(client.ask(publish("p", f"9.{number}.0")), [refused(reason, revision)])
-        self.assertEqual(client.ask(resolve("log *"), LIST)[1]["revision"], revision)
+            assert service.get("/health") == (503, reason + "\n")
+            assert client.ask(publish("p", f"9.{number}.0")) == [refused(reason, revision)]
+        assert client.ask(resolve("log *"), LIST)[1]["revision"] == revision
         counts = service.get("/metrics")[1]
-        self.assertIn("registryd_keeper_up 0\n", counts)
-        self.assertIn('registryd_refused_total{number="503",name="DiskFault"} ', counts)
-        self.assertLessEqual(self.restarts(service), 8)
+        assert "registryd_keeper_up 0\n" in counts
+        assert 'registryd_refused_total{number="503",name="DiskFault"} ' in counts
+        assert self.restarts(service) <= 8
 
     @staticmethod
     def restarts(service):
-        found = [it for it in service.get("/metrics")[1].splitlines() if it.startswith('registryd_restarts_total{program="keeper"}')]
+        found = [it
+                 for it in service.get("/metrics")[1].splitlines()
+                 if it.startswith('registryd_restarts_total{program="keeper"}')]
         return int(found[0].split()[1]) if found else 0
 
     def goes_on(self, service, client, revision):
         wait_for(lambda: service.get("/health") == (200, "ok\n"))
-        self.assertEqual(client.ask(publish("after", "1.0.0")), [{"ok": True, "revision": revision + 1}])
-        self.assertIn("registryd_keeper_up 1\n", service.get("/metrics")[1])
+        assert client.ask(publish("after", "1.0.0")) == [{"ok": True, "revision": revision + 1}]
+        assert "registryd_keeper_up 1\n" in service.get("/metrics")[1]
 
 
 class Full(Faulty):
@@ -81,36 +85,41 @@ class Full(Faulty):
         self.fill()
         with service.client() as client:
             revision, reply = self.publish_until_refused(client)
-            self.assertEqual(reply, refused(FULL, revision))
+            assert reply == refused(FULL, revision)
             self.is_told(service, client, FULL, revision)
-            self.assertEqual(self.restarts(service), 1)
+            assert self.restarts(service) == 1
             # what is no command is answered by the program that keeps the journal, and the journal is told
-            self.assertEqual(client.ask("{}"), [{"error": 19, "name": "BadLine", "revision": revision}])
-            self.assertTrue(service.get("/journal")[1].endswith(f"\nend {revision}\n"))
+            assert client.ask("{}") == [{"error": 19, "name": "BadLine", "revision": revision}]
+            assert service.get("/journal")[1].endswith(f"\nend {revision}\n")
             self.clients_are_told(service, revision)
             self.other.unlink()
             self.goes_on(service, client, revision)
-        self.assertEqual(service.end()[0], 0)
-        self.assertEqual(len(service.commands()), revision + 1)
-        self.assertTrue(service.journal.read_bytes().endswith(f"\nend {revision + 1}\n".encode()))
+        assert service.end()[0] == 0
+        assert len(service.commands()) == revision + 1
+        assert service.journal.read_bytes().endswith(f"\nend {revision + 1}\n".encode())
 
     def clients_are_told(self, service, revision):
         """At once, and not that nothing is known."""
         begun = time.monotonic()
-        done = subprocess.run([os.path.join(TOP, "registry"), "publish", "a", "1.0.0", "--connect", service.socket], stdout=subprocess.PIPE,
-                              stderr=subprocess.PIPE, text=True, timeout=services.PATIENCE, env={**os.environ, "REGISTRY_PROGRAM": PROGRAM})
-        self.assertEqual((done.returncode, done.stdout, done.stderr), (3, "", f"registry: the service at {service.socket} accepts nothing now: {FULL}\n"))
+        done = subprocess.run([os.path.join(TOP, "registry"), "publish", "a", "1.0.0", "--connect",
+                               service.socket], stdout=subprocess.PIPE, stderr=subprocess.PIPE, text=True,
+                              timeout=services.PATIENCE, env={**os.environ, "REGISTRY_PROGRAM": PROGRAM})
+        assert (done.returncode, done.stdout, done.stderr) == (3, "",
+                                                               f"registry: the service at {service.socket} "
+                                                               f"accepts nothing now: {FULL}\n")
         with registryd.Registry(connect=service.socket) as registry:
-            with self.assertRaisesRegex(registryd.Refusal, FULL):
+            with pytest.raises(registryd.Refusal, match=FULL):
                 registry.publish("a", "1.0.0")
-            self.assertEqual(registry.list().revision, revision)
-        self.assertLess(time.monotonic() - begun, SOON)
+            assert registry.list().revision == revision
+        assert time.monotonic() - begun < SOON
 
     def test_what_is_refused_is_never_accepted(self):
         """Clients send many lines at once while the disk fills up, and again each time there is room."""
         service, rng, accepted, refusals, unknown = self.begin(changes=QUICK), random.Random(3), {}, set(), set()
         for number in range(3):
-            threads = [threading.Thread(target=self.flood, args=(service, f"p{number}-{place}", rng.randrange(1_000), accepted, refusals, unknown)) for place in range(4)]
+            threads = [threading.Thread(target=self.flood, args=(service, f"p{number}-{place}",
+                                                                 rng.randrange(1_000), accepted, refusals, unknown))
+                       for place in range(4)]
             self.fill()
             os.truncate(self.other, self.other.stat().st_size - SOME_LINES)
             for it in threads:
@@ -122,13 +131,13 @@ class Full(Faulty):
             self.flood(service, f"p{number}-4", rng.randrange(1_000), accepted, refusals, unknown)
             self.other.unlink()
             wait_for(lambda: service.get("/health")[0] == 200)
-        self.assertEqual(service.end()[0], 0)
+        assert service.end()[0] == 0
         commands = service.commands()
         self.demand(accepted, commands)
-        self.assertGreater(len(refusals), 100)
-        self.assertGreater(len(accepted), 30)
-        self.assertEqual({journal_line(it).encode() for it in refusals} & set(commands), set())
-        self.assertEqual(len(commands) - len(accepted), len({journal_line(it).encode() for it in unknown} & set(commands)))
+        assert len(refusals) > 100
+        assert len(accepted) > 30
+        assert {journal_line(it).encode() for it in refusals} & set(commands) == set()
+        assert len(commands) - len(accepted) == len({journal_line(it).encode() for it in unknown} & set(commands))
 
     @staticmethod
     def flood(service, name, seed, accepted, refusals, unknown):
@@ -155,12 +164,13 @@ class Failing(Faulty):
     def begin_by(self, failing):
         """A service, once the program has been begun that fails."""
         script, self.flag = Path(self.folder, "program"), Path(self.folder, "fails")
-        script.write_text(f'#!/bin/sh\ncase "$*" in *--journal=*) [ -e {self.flag} ] && {failing};; esac\nexec {PROGRAM} "$@"\n')
+        script.write_text(f'#!/bin/sh\ncase "$*" in *--journal=*) [ -e {self.flag} ] && '
+                          f'{failing};; esac\nexec {PROGRAM} "$@"\n')
         script.chmod(0o755)
         self.enterContext(mock.patch.object(services, "PROGRAM", str(script)))
         service = self.begin(changes=QUICK)
         with service.client() as client:
-            self.assertEqual(client.ask(publish("log", "1.0.0")), [{"ok": True, "revision": 1}])
+            assert client.ask(publish("log", "1.0.0")) == [{"ok": True, "revision": 1}]
         self.flag.touch()
         service.kill_keeper()
         wait_for(lambda: self.restarts(service) > 0)
@@ -168,50 +178,49 @@ class Failing(Faulty):
 
     def broken(self, call, number, error):
         of = Break(call, number, error)
-        return " ".join(["export", *(f"{name}={value}" for name, value in of.env(self.library).items() if name.startswith(("LD_PRELOAD", "BREAK_")))])
+        return " ".join(["export", *(f"{name}={value}" for name, value in of.env(self.library).items()
+                                     if name.startswith(("LD_PRELOAD", "BREAK_")))])
 
     def test_a_write_that_fails(self):
         for error, words in (("ENOSPC", "No space left on device"), ("EIO", "Input/output error")):
             # the first write is that of a reply
             service, reason = self.begin_by(self.broken("write", 2, error)), f"the journal can't be written: {words}"
             with service.client() as client:
-                self.assertEqual(client.ask(publish("log", "2.0.0")), [refused(reason, 1)])
+                assert client.ask(publish("log", "2.0.0")) == [refused(reason, 1)]
                 self.is_told(service, client, reason, 1)
                 self.flag.unlink()
                 self.goes_on(service, client, 1)
-            self.assertEqual(service.end()[0], 0)
-            self.assertEqual([json.loads(it)["name"] for it in service.commands()], ["log", "after"])
+            assert service.end()[0] == 0
+            assert [json.loads(it)["name"] for it in service.commands()] == ["log", "after"]
             service.journal.unlink()
 
     def test_a_sync_that_fails(self):
         """The line stands then: of that it is told that it is not known, and what is looked up there is so."""
-        service, reason = self.begin_by(self.broken("fdatasync", 1, "EIO")), "the journal can't be synced: Input/output error"
+        service, reason = self.begin_by(self.broken("fdatasync", 1,
+                                                    "EIO")), "the journal can't be synced: Input/output error"
         with registryd.Registry(connect=service.socket) as registry, service.client() as client:
-            self.assertEqual(registry.publish("log", "2.0.0"), 2)
+            assert registry.publish("log", "2.0.0") == 2
             self.is_told(service, client, reason, 2)
             self.flag.unlink()
             self.goes_on(service, client, 2)
-        self.assertEqual(service.end()[0], 0)
-        self.assertEqual(len(service.commands()), 3)
+        assert service.end()[0] == 0
+        assert len(service.commands()) == 3
 
     def test_a_journal_that_can_not_be_opened(self):
         reason = "the journal can't be opened: Read-only file system"
-        service = self.begin_by("{ echo \"registryd: journal team.journal: can't be opened: Read-only file system (os error 30)\" >&2; exit 1; }")
+        service = self.begin_by("{ echo \"registryd: journal team.journal: can't be opened: "
+                                "Read-only file system (os error 30)\" >&2; exit 1; }")
         wait_for(lambda: service.get("/health")[1] == reason + "\n")
         with service.client() as client:
             self.is_told(service, client, reason, 1)
             self.flag.unlink()
             self.goes_on(service, client, 1)
-        self.assertEqual(service.end()[0], 0)
+        assert service.end()[0] == 0
 
     def test_it_is_stopped_meanwhile(self):
         service = self.begin_by(self.broken("write", 2, "ENOSPC"))
         with service.client() as client:
             client.ask(publish("log", "2.0.0"))
             status, said = service.end(signal.SIGTERM)
-        self.assertEqual(status, 3)
-        self.assertIn("has no end line: it has all accepted commands", said)
-
-
-if __name__ == "__main__":
-    unittest.main()
+        assert status == 3
+        assert "has no end line: it has all accepted commands" in said

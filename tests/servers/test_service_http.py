@@ -1,7 +1,6 @@
 """Connections on which HTTP is spoken are within the bounds of a service, and never stop it from telling how it is."""
 import os
 import threading
-import unittest
 from pathlib import Path
 
 from tests.program.test_journals import journal
@@ -26,14 +25,14 @@ class Places(Case):
         one, _ = self.half(service), self.half(service)
         with service.client() as client:
             client.send(LIST)
-            self.assertEqual(client.rest(), TOO_MANY)
-        self.assertIn(b"200 OK", one.finish(b"Host: localhost\r\n\r\n"))
+            assert client.rest() == TOO_MANY
+        assert b"200 OK" in one.finish(b"Host: localhost\r\n\r\n")
         wait_for(lambda: self.is_answered(service))
         wait_for(lambda: "registryd_clients 0\n" in service.get("/metrics")[1])
         with service.client() as client:
             # and who asks lines has a place that one over HTTP lacks
-            self.assertEqual(client.ask(LIST), [EMPTY])
-            self.assertEqual(service.get("/journal")[0], 503)
+            assert client.ask(LIST) == [EMPTY]
+            assert service.get("/journal")[0] == 503
         self.ends_well(service)
 
     @staticmethod
@@ -45,14 +44,14 @@ class Places(Case):
         service = self.begin("--clients", 1)
         with service.client() as client:
             client.ask(LIST)
-            self.assertEqual(service.get("/health"), (200, "ok\n"))
-            self.assertIn("registryd_clients 1\n", service.get("/metrics")[1])
-            self.assertEqual(service.get("/journal"), (503, "as many clients as are allowed are connected\n"))
+            assert service.get("/health") == (200, "ok\n")
+            assert "registryd_clients 1\n" in service.get("/metrics")[1]
+            assert service.get("/journal") == (503, "as many clients as are allowed are connected\n")
             # also beside some who wait, and these are let go soon
             waiting = [self.enterContext(service.client()) for _ in range(10)]
-            self.assertEqual(service.get("/health"), (200, "ok\n"))
-            self.assertEqual({it.rest() for it in waiting}, {TOO_MANY})
-            self.assertEqual(client.ask(LIST), [EMPTY])
+            assert service.get("/health") == (200, "ok\n")
+            assert {it.rest() for it in waiting} == {TOO_MANY}
+            assert client.ask(LIST) == [EMPTY]
         self.ends_well(service)
 
 
@@ -71,7 +70,7 @@ class Copies(Case):
 
     def test_a_copy_is_told_in_pieces_and_only_as_it_is_read(self):
         service = self.begin()
-        self.assertEqual(service.get("/journal"), (200, journal(self.lines).decode()))
+        assert service.get("/journal") == (200, journal(self.lines).decode())
         before = self.memory(service)
         asked = [self.enterContext(service.client()) for _ in range(16)]
         for it in asked:
@@ -80,9 +79,9 @@ class Copies(Case):
         wait_for(lambda: sum(self.has_come(it) for it in asked) >= 4)
         with service.client() as client:
             for minor in range(20):
-                self.assertEqual(client.ask(publish("log", f"2.{minor}.0")), [{"ok": True, "revision": COMMANDS + minor + 1}])
-        self.assertEqual(service.get("/health"), (200, "ok\n"))
-        self.assertLess(self.memory(service) - before, MORE)
+                assert client.ask(publish("log", f"2.{minor}.0")) == [{"ok": True, "revision": COMMANDS + minor + 1}]
+        assert service.get("/health") == (200, "ok\n")
+        assert self.memory(service) - before < MORE
         # once they read, each has a whole one
         threads = [threading.Thread(target=it.rest) for it in asked]
         for it in threads:
@@ -92,11 +91,11 @@ class Copies(Case):
         whole = journal(self.lines).splitlines()[:-1]
         for it in asked:
             head, _, text = it.read.partition(b"\r\n\r\n")
-            self.assertIn(b"\r\nContent-Length: %d\r\n" % len(text), head)
+            assert b"\r\nContent-Length: %d\r\n" % len(text) in head
             lines = text.splitlines()
-            self.assertIn(len(lines) - 2, range(COMMANDS, COMMANDS + 21))
-            self.assertEqual((lines[:COMMANDS + 1], lines[-1]), (whole, b"end %d" % (len(lines) - 2)))
-        self.assertLess(self.memory(service) - before, MORE)
+            assert len(lines) - 2 in range(COMMANDS, COMMANDS + 21)
+            assert (lines[:COMMANDS + 1], lines[-1]) == (whole, b"end %d" % (len(lines) - 2))
+        assert self.memory(service) - before < MORE
         self.ends_well(service)
 
     @staticmethod
@@ -109,7 +108,3 @@ class Copies(Case):
         finally:
             client.socket.settimeout(60)
         return bool(client.read)
-
-
-if __name__ == "__main__":
-    unittest.main()

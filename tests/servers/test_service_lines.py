@@ -1,4 +1,5 @@
-"""What a service answers is what the program answers: the same bytes in the order of each client's lines, however many there are."""
+"""What a service answers is what the program answers: the same bytes in the order of each client's lines, however many
+there are."""
 import contextlib
 import itertools
 import json
@@ -7,8 +8,9 @@ import random
 import re
 import socket
 import threading
-import unittest
 from collections import deque
+
+import pytest
 
 from registry_service.child import Child
 from tests.support.made_lines import Maker
@@ -50,13 +52,13 @@ class Order(Case):
             told = replies_of(client, text).split(b"\n")
         wanted = run(SERVE, text).stdout.split(b"\n")
         for number, (one, other) in enumerate(zip(told, wanted)):
-            self.assertEqual(plain(one), plain(other), f"line {number + 1}: {lines[number:number + 1]}")
-        self.assertEqual(len(told), len(wanted))
+            assert plain(one) == plain(other), f"line {number + 1}: {lines[number:number + 1]}"
+        assert len(told) == len(wanted)
         self.ends_well(service)
 
     def test_the_lines_of_all_tables(self):
         lines = without_budget(line for table in tables_under("lines") for line, _, _ in table.rows)
-        self.assertGreater(len(lines), 500)
+        assert len(lines) > 500
         for readers in (1, 3):
             with self.subTest(readers):
                 self.compare(lines, "--readers", readers)
@@ -67,7 +69,8 @@ class Order(Case):
         self.compare(without_budget(maker.line(maker.value()).replace(b"\n", b" ") for _ in range(2_000)))
 
     def test_twenty_clients_at_once(self):
-        """Each client's replies come in its order, at revisions that never fall, and each sees what it was told before."""
+        """Each client's replies come in its order, at revisions that never fall, and each sees what it was told
+        before."""
         service, faults = self.begin(), []
 
         def talk(number):
@@ -81,25 +84,25 @@ class Order(Case):
             it.start()
         for it in threads:
             it.join()
-        self.assertEqual(faults, [])
+        assert faults == []
         self.ends_well(service)
-        self.assertEqual(len(service.commands()), 20 * 30)
+        assert len(service.commands()) == 20 * 30
 
     def talk(self, service, number):
         rng, last = random.Random(number), 0
         with service.client() as client:
             for minor in range(30):
-                lines = [publish(f"p{number}", f"1.{minor}.0"), resolve(f"p{number} *"), resolve(f"p{(number + 1) % 20} *"),
-                         publish(f"p{number}", f"1.{minor}.0"), "no line"]
+                lines = [publish(f"p{number}", f"1.{minor}.0"), resolve(f"p{number} *"),
+                         resolve(f"p{(number + 1) % 20} *"), publish(f"p{number}", f"1.{minor}.0"), "no line"]
                 if rng.random() < 0.5:
                     accepted, own, other, again, bad = client.ask(*lines)
                 else:
                     accepted, own, other, again, bad = (client.ask(line)[0] for line in lines)
-                self.assertEqual((accepted["ok"], own["selected"]), (True, [[f"p{number}", f"1.{minor}.0"]]))
-                self.assertTrue("selected" in other or other["refused"])
-                self.assertEqual((again["error"], bad["error"]), (7, 19))
+                assert (accepted["ok"], own["selected"]) == (True, [[f"p{number}", f"1.{minor}.0"]])
+                assert "selected" in other or other["refused"]
+                assert (again["error"], bad["error"]) == (7, 19)
                 revisions = [last, *(it["revision"] for it in (accepted, own, other, again, bad))]
-                self.assertEqual(revisions, sorted(revisions))
+                assert revisions == sorted(revisions)
                 last = revisions[-1]
 
 
@@ -108,34 +111,37 @@ class Bounds(Case):
         service = self.begin()
         good = LIST + " " * (MOST_LINE_BYTES - len(LIST))
         listed, bad = b'{"packages":[],"revision":0}\n', b'{"error":19,"name":"BadLine","revision":0}\n'
-        for text, told in ((good + "\n", listed), (good + " \n", bad), (good + " \n" + LIST + "\n", bad + listed), (good + " " * 3_000_000, bad),
-                           (good, listed), (LIST, listed), ("", b""), ("\n", bad), ("\n\n" + LIST, bad + bad + listed), (LIST + "\r\n", listed)):
+        for text, told in ((good + "\n", listed), (good + " \n", bad), (good + " \n" + LIST + "\n", bad + listed),
+                           (good + " " * 3_000_000, bad), (good, listed), (LIST, listed), ("", b""), ("\n", bad),
+                           ("\n\n" + LIST, bad + bad + listed), (LIST + "\r\n", listed)):
             with self.subTest(text.replace(" " * 1_000, "")[:100]), service.client() as client:
-                self.assertEqual(client.finish(text.encode()), told)
+                assert client.finish(text.encode()) == told
         self.ends_well(service)
 
     def test_lines_in_pieces(self):
         service, told = self.begin(), []
-        text = "".join(it + "\n" for it in (publish("log", "1.0.0"), resolve("log *"), yank("log", "1.0.0"), LIST, resolve("log *"))).encode()
+        text = "".join(it + "\n" for it in (publish("log", "1.0.0"), resolve("log *"), yank("log", "1.0.0"),
+                                            LIST, resolve("log *"))).encode()
         for size in (1, 7, 64):
             with service.client() as client:
                 client.socket.setsockopt(socket.SOL_SOCKET, socket.SO_SNDBUF, 4_096)
                 for at in range(0, len(text), size):
                     client.socket.sendall(text[at:at + size])
                 told.append(client.finish())
-        self.assertEqual(told[0], run(SERVE, text).stdout)
-        again = b'{"error":7,"name":"AlreadyPublished","revision":2}\n{"refused":true,"revision":2}\n{"error":12,"name":"AlreadyYanked","revision":2}\n'
-        self.assertTrue(told[1] == told[2] and told[1].startswith(again), told[1])
+        assert told[0] == run(SERVE, text).stdout
+        again = (b'{"error":7,"name":"AlreadyPublished","revision":2}\n{"refused":true,"revision'
+                 b'":2}\n{"error":12,"name":"AlreadyYanked","revision":2}\n')
+        assert told[1] == told[2] and told[1].startswith(again), told[1]
 
     def test_no_more_clients_than_may_be(self):
         service = self.begin("--clients", 2)
         with service.client() as one, service.client() as two:
-            self.assertEqual([it.ask(LIST)[0]["revision"] for it in (one, two)], [0, 0])
+            assert [it.ask(LIST)[0]["revision"] for it in (one, two)] == [0, 0]
             with service.client() as three:
-                self.assertEqual(three.rest(), b'{"error":503,"name":"TooManyClients","revision":0}\n')
-            self.assertEqual(two.finish(), b"")
+                assert three.rest() == b'{"error":503,"name":"TooManyClients","revision":0}\n'
+            assert two.finish() == b""
             with service.client() as four:
-                self.assertEqual(four.ask(LIST)[0]["revision"], 0)
+                assert four.ask(LIST)[0]["revision"] == 0
 
     def test_a_client_that_does_not_read_is_cut_off_and_holds_up_nobody(self):
         service = self.begin(changes=[("client", "STALLED", 1)])
@@ -144,22 +150,22 @@ class Bounds(Case):
             with service.client() as idle:
                 idle.socket.settimeout(0.5)
                 sent = 0
-                with self.assertRaises(TimeoutError):  # it is read no more from
+                with pytest.raises(TimeoutError):  # it is read no more from
                     while sent < 5_000_000:
                         sent += idle.socket.send((LIST + "\n").encode() * 1_000)
-                self.assertEqual(busy.ask(LIST)[0]["revision"], 200)
+                assert busy.ask(LIST)[0]["revision"] == 200
                 wait_for(lambda: "registryd_clients_cut_off_total 1\n" in service.get("/metrics")[1])
                 idle.socket.settimeout(PATIENCE)
                 read = idle.rest()
-            self.assertTrue(read.startswith(b'{"packages":[["log",[["1.0.0",false],'))
-            self.assertLess(read.count(b"\n"), 100_000)
-        self.assertIn("event=cut-off", service.end()[1])
+            assert read.startswith(b'{"packages":[["log",[["1.0.0",false],')
+            assert read.count(b"\n") < 100_000
+        assert "event=cut-off" in service.end()[1]
 
     def test_a_client_that_reads_late_gets_all(self):
         service = self.begin()
         with service.client() as client:
             client.ask(*(publish("log", f"1.{minor}.0") for minor in range(500)))
-            self.assertEqual(replies_of(client, (LIST + "\n").encode() * 500).count(b"\n"), 500)
+            assert replies_of(client, (LIST + "\n").encode() * 500).count(b"\n") == 500
 
     def test_a_client_that_leaves_has_its_commands_and_no_more(self):
         service = self.begin()
@@ -167,37 +173,44 @@ class Bounds(Case):
             client.send(*(publish("log", f"1.{minor}.0") for minor in range(50)))
         with service.client() as client:
             # whoever comes after is answered
-            self.assertIn("packages", client.ask(LIST)[0])
+            assert "packages" in client.ask(LIST)[0]
         self.ends_well(service)
         commands = service.commands()
-        self.assertEqual([json.loads(it)["version"] for it in commands], [f"1.{minor}.0" for minor in range(len(commands))])
+        assert [json.loads(it)["version"] for it in commands] == [f"1.{minor}.0" for minor in range(len(commands))]
 
     def test_what_a_page_in_a_browser_sends_is_no_request(self):
         """A page from elsewhere can have a browser send any text behind a head of HTTP."""
         service = self.begin("--port", 0)
-        for method, path, status in (("POST", "/", b"405 Method Not Allowed"), ("PUT", "/", b"405 Method Not Allowed"),
-                                     ("OPTIONS", "/", b"405 Method Not Allowed"), ("POST", "/ HTTP/1.1", b"400 Bad Request")):
-            text = f"{method} {path} HTTP/1.1\r\nHost: localhost\r\nContent-Length: 60\r\n\r\n{publish('log', '1.0.0')}\n"
+        for method, path, status in (("POST", "/", b"405 Method Not Allowed"),
+                                     ("PUT", "/", b"405 Method Not Allowed"),
+                                     ("OPTIONS", "/", b"405 Method Not Allowed"),
+                                     ("POST", "/ HTTP/1.1", b"400 Bad Request")):
+            text = (f"{method} {path} HTTP/1.1\r\nHost: localhost\r\nContent-Length: "
+                    f"60\r\n\r\n{publish('log', '1.0.0')}\n")
             with self.subTest(text[:20]), Client(service.address()) as client:
-                self.assertIn(b"HTTP/1.1 " + status + b"\r\n", client.finish(text.encode()))
+                assert b"HTTP/1.1 " + status + b"\r\n" in client.finish(text.encode())
         self.nothing_is_published(service)
 
     def test_what_is_meant_for_someone_else_is_no_request(self):
-        """As where a browser is led to speak another protocol here: behind a first line that begins no object nothing is carried out."""
+        """As where a browser is led to speak another protocol here: behind a first line that begins no object
+        nothing is carried out."""
         service, command = self.begin("--port", 0), publish("log", "1.0.0").encode() + b"\n"
-        for begun in (b"\x16\x03\x01\x02\x00\x01\x00\x01\xfc\x03\x03", b"\x16\x03\x01\n", b"GET /\r\n", b"PRI * HTTP/2.0\r\n\r\nSM\r\n\r\n", b"M-SEARCH * HTTP/1.1\r\n\r\n", b"USER x\r\n",
-                      b"\nHELO x\r\n", b"[]\n", b"POST /" + b"a" * (MOST_LINE_BYTES - 100) + b" HTTP/1.1\r\n\r\n", b"POST /" + b"a" * 3_000_000 + b" HTTP/1.1\r\n\r\n"):
-            with self.subTest(begun[:20]), Client(service.address()) as client, contextlib.suppress(OSError):  # it is closed before all is sent
+        for begun in (b"\x16\x03\x01\x02\x00\x01\x00\x01\xfc\x03\x03", b"\x16\x03\x01\n",
+                      b"GET /\r\n", b"PRI * HTTP/2.0\r\n\r\nSM\r\n\r\n", b"M-SEARCH * HTTP/1.1\r\n\r\n",
+                      b"USER x\r\n", b"\nHELO x\r\n", b"[]\n", b"POST /" + b"a" * (MOST_LINE_BYTES - 100)
+                      + b" HTTP/1.1\r\n\r\n", b"POST /" + b"a" * 3_000_000 + b" HTTP/1.1\r\n\r\n"):
+            # it is closed before all is sent
+            with self.subTest(begun[:20]), Client(service.address()) as client, contextlib.suppress(OSError):
                 told = client.finish(begun + b"\n" + command)
-                self.assertEqual(set(told.splitlines()) - {b'{"error":19,"name":"BadLine","revision":0}'}, set())
+                assert set(told.splitlines()) - {b'{"error":19,"name":"BadLine","revision":0}'} == set()
         self.nothing_is_published(service)
 
     def nothing_is_published(self, service):
         with service.client() as client:
-            self.assertEqual(client.ask(LIST), [{"packages": [], "revision": 0}])
+            assert client.ask(LIST) == [{"packages": [], "revision": 0}]
 
 
-class Pieces(unittest.TestCase):
+class TestPieces:
     def test_replies_that_come_in_pieces(self):
         """Of a program, cut at each set of places."""
         text, told = b"ab\n\ncde\nf", [b"ab", b"", b"cde"]
@@ -207,8 +220,4 @@ class Pieces(unittest.TestCase):
             child.waiting, child.pieces, child.is_killed = deque([said.append] * len(told)), [], False
             for begin, end in itertools.pairwise(places):
                 child.data_received(text[begin:end])
-            self.assertEqual((said, b"".join(child.pieces)), (told, b"f"), places)
-
-
-if __name__ == "__main__":
-    unittest.main()
+            assert (said, b"".join(child.pieces)) == (told, b"f"), places

@@ -1,11 +1,10 @@
-"""The commands of a client are carried out in the order in which it sent them, also where the program that keeps the journal ends:
-none of them is carried out once one before it was answered that nothing is known of it."""
+"""The commands of a client are carried out in the order in which it sent them, also where the program that keeps the
+journal ends: none of them is carried out once one before it was answered that nothing is known of it."""
 import json
 import os
 import re
 import signal
 import time
-import unittest
 
 from tests.support.program import LIST, journal_line, publish, resolve
 from tests.support.services import Case, wait_for
@@ -23,7 +22,8 @@ class Order(Case):
         """Sends lines to a keeper that stands still, and kills it."""
         os.kill(self.service.keeper(), signal.SIGSTOP)
         client.send(*lines)
-        wait_for(lambda: int(re.search("registryd_lines_waiting ([0-9]+)", self.service.get("/metrics")[1])[1]) >= min(len(lines), 64))
+        wait_for(lambda: int(re.search("registryd_lines_waiting ([0-9]+)", self.service.get("/metrics")[1])[1])
+                 >= min(len(lines), 64))
         self.service.kill_keeper()
         self.service.keeper()  # the next one, and so it is known that the first has ended
         wait_for(lambda: self.service.get("/health")[0] == 200)
@@ -32,40 +32,41 @@ class Order(Case):
         """Of so many replies, the revisions of what was accepted first, and the refusals behind that."""
         replies = [json.loads(client.line()) for _ in range(count)]
         accepted = [it["revision"] for it in replies if "ok" in it]
-        self.assertTrue(all("ok" in it for it in replies[:len(accepted)]))
-        self.assertEqual({(it["error"], it["name"]) for it in replies[len(accepted):]}, {(503, "Unavailable")})
+        assert all("ok" in it for it in replies[:len(accepted)])
+        assert {(it["error"], it["name"]) for it in replies[len(accepted):]} == {(503, "Unavailable")}
         return accepted
 
     def test_no_command_is_carried_out_behind_one_of_which_nothing_is_known(self):
         """Of 300 that were sent at once 64 are under way when the keeper ends, and those behind them wait."""
         with self.service.client() as client:
-            self.assertEqual(client.ask(*LINES[:3])[-1], {"ok": True, "revision": 3})
+            assert client.ask(*LINES[:3])[-1] == {"ok": True, "revision": 3}
             self.interrupt(client, *LINES[3:])
-            self.assertEqual(self.told(client, len(LINES) - 3), [])
-        self.assertEqual(self.service.end()[0], 0)
+            assert self.told(client, len(LINES) - 3) == []
+        assert self.service.end()[0] == 0
         commands = self.service.commands()
-        self.assertEqual(commands, [journal_line(it).encode() for it in LINES[:len(commands)]])
-        self.assertLessEqual(len(commands), 3 + 64)
+        assert commands == [journal_line(it).encode() for it in LINES[:len(commands)]]
+        assert len(commands) <= 3 + 64
 
     def test_the_connection_answers_requests_and_takes_no_more_commands(self):
         with self.service.client() as client, self.service.client() as other:
             self.interrupt(client, LINES[0])
-            self.assertEqual(self.told(client, 1), [])
+            assert self.told(client, 1) == []
             before = other.ask(LIST)[0]["revision"]  # it may have been written before the kill
             # whoever had none under way goes on as before
-            self.assertEqual(other.ask(publish("zlib", "1.0.0")), [{"ok": True, "revision": before + 1}])
+            assert other.ask(publish("zlib", "1.0.0")) == [{"ok": True, "revision": before + 1}]
             refused, found, again = client.ask(LINES[1], resolve("zlib *"), LINES[2])
-            self.assertEqual(found, {"revision": before + 1, "selected": [["zlib", "1.0.0"]]})
-            self.assertEqual([refused, again], [{**UNAVAILABLE, "revision": before + 1}] * 2)
+            assert found == {"revision": before + 1, "selected": [["zlib", "1.0.0"]]}
+            assert [refused, again] == [{**UNAVAILABLE, "revision": before + 1}] * 2
             # a line that is no request is of the keeper, whatever it may be, and so it isn't asked either
-            self.assertEqual(client.ask("no line"), [{**UNAVAILABLE, "revision": before + 1}])
+            assert client.ask("no line") == [{**UNAVAILABLE, "revision": before + 1}]
             with self.service.client() as next_one:
-                self.assertEqual(next_one.ask(LINES[1]), [{"ok": True, "revision": before + 2}])
+                assert next_one.ask(LINES[1]) == [{"ok": True, "revision": before + 2}]
 
 
 class Revisions(Case):
     def test_they_never_fall_where_a_reader_is_held_up(self):
-        """What waits behind its first request is asked of the other reader, at a later revision than what that was asked before."""
+        """What waits behind its first request is asked of the other reader, at a later revision than what that
+        was asked before."""
         service = self.begin()
         with service.client() as client, service.client() as other:
             client.ask(LINES[0])
@@ -77,10 +78,6 @@ class Revisions(Case):
                 time.sleep(0.02)
             os.kill(held_up, signal.SIGCONT)
             replies = [json.loads(client.line()) for _ in range(20)]
-        self.assertEqual([it["selected"] for it in replies], [[["log", f"1.{it['revision'] - 1}.0"]] for it in replies])
+        assert [it["selected"] for it in replies] == [[["log", f"1.{it['revision'] - 1}.0"]] for it in replies]
         revisions = [it["revision"] for it in replies]
-        self.assertEqual(revisions, sorted(revisions))
-
-
-if __name__ == "__main__":
-    unittest.main()
+        assert revisions == sorted(revisions)

@@ -4,7 +4,6 @@ import os
 import re
 import signal
 import socket
-import unittest
 from contextlib import closing
 from http.client import HTTPConnection
 from pathlib import Path
@@ -16,7 +15,8 @@ from tests.support.services import Case, wait_for, words_of
 class Pages(Case):
     def shown(self, service):
         """The port of its page, once that is told."""
-        found = re.fullmatch(rf"{re.escape(str(service.journal))} is shown at http://127\.0\.0\.1:([0-9]+)/\n", service.running.stdout.readline())
+        found = re.fullmatch(rf"{re.escape(str(service.journal))} is shown at http://127\.0\.0\.1:([0-9]+)/\n",
+                             service.running.stdout.readline())
         return int(found[1])
 
     @staticmethod
@@ -34,7 +34,8 @@ class Pages(Case):
         for path in Path("/proc").glob("[0-9]*/stat"):
             try:
                 state, parent, *_ = path.read_text(errors="replace").rpartition(")")[2].split()
-                if int(parent) == service.running.pid and state not in "ZX" and b"\0page\0" in words_of(path.parent.name):
+                is_own = int(parent) == service.running.pid and state not in "ZX"
+                if is_own and b"\0page\0" in words_of(path.parent.name):
                     yield int(path.parent.name)
             except OSError:
                 pass
@@ -42,26 +43,27 @@ class Pages(Case):
     def test_it_shows_what_is_accepted(self):
         service = self.begin("--page-port", 0)
         port = self.shown(service)
-        self.assertEqual(self.ask(port, "/api/status")[1]["revision"], 0)
+        assert self.ask(port, "/api/status")[1]["revision"] == 0
         with service.client() as client:
             client.ask(publish("log", "1.3.0"), publish("app", "1.0.0", ["log ^1"]))
         wait_for(lambda: self.ask(port, "/api/status")[1]["revision"] == 2)
-        self.assertEqual([it["name"] for it in self.ask(port, "/api/search")[1]["packages"]], ["app", "log"])
-        self.assertEqual([it["name"] for it in self.ask(port, "/api/resolve?need=app")[1]["selected"]], ["app", "log"])
+        assert [it["name"] for it in self.ask(port, "/api/search")[1]["packages"]] == ["app", "log"]
+        assert [it["name"] for it in self.ask(port, "/api/resolve?need=app")[1]["selected"]] == ["app", "log"]
         # it reads alone, and answers no other host
-        self.assertEqual((self.ask(port, "/api/status", "POST")[0], self.ask(port, "/api/status", host="evil.example")[0]), (405, 421))
-        self.assertIn(b'src="/page.js"', self.ask(port, "/")[1])
+        assert (self.ask(port, "/api/status", "POST")[0], self.ask(port, "/api/status",
+                                                                   host="evil.example")[0]) == (405, 421)
+        assert b'src="/page.js"' in self.ask(port, "/")[1]
         # begun again, it is where it was
         [page] = self.pages(service)
         os.kill(page, signal.SIGKILL)
         wait_for(lambda: self.answers(port))
         with service.client() as client:
-            self.assertEqual(client.ask(publish("web", "1.0.0")), [{"ok": True, "revision": 3}])
-        self.assertIn('registryd_restarts_total{program="page"} 1\n', service.get("/metrics")[1])
+            assert client.ask(publish("web", "1.0.0")) == [{"ok": True, "revision": 3}]
+        assert 'registryd_restarts_total{program="page"} 1\n' in service.get("/metrics")[1]
         [page] = self.pages(service)
         status, said = service.end()
-        self.assertEqual(status, 0)
-        self.assertRegex(said, r"event=restart program=page why='the page ended with status -9'\n")
+        assert status == 0
+        assert re.search(r"event=restart program=page why='the page ended with status -9'\n", said)
         wait_for(lambda: not os.path.exists(f"/proc/{page}") or b"page" not in words_of(page))
 
     def answers(self, port):
@@ -81,17 +83,13 @@ class Pages(Case):
     def test_a_signal_while_it_begins(self):
         service = self.begin("--page-port", 0)
         status, said = service.end()
-        self.assertEqual((status, said), (0, ""))
+        assert (status, said) == (0, "")
 
     def test_a_port_that_is_taken(self):
         with socket.socket() as taken:
             taken.bind(("127.0.0.1", 0))
             taken.listen()
             status, said = self.begin("--page-port", taken.getsockname()[1]).wait()
-        self.assertEqual(status, 3)
-        self.assertIn("can't be taken", said)
-        self.assertEqual(sorted(os.listdir(self.folder)), ["team.journal"])
-
-
-if __name__ == "__main__":
-    unittest.main()
+        assert status == 3
+        assert "can't be taken" in said
+        assert sorted(os.listdir(self.folder)) == ["team.journal"]

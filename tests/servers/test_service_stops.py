@@ -1,4 +1,5 @@
-"""A service ends in order by a signal, and where anything is killed at any moment, nothing that was told as accepted is lost."""
+"""A service ends in order by a signal, and where anything is killed at any moment, nothing that was told as accepted is
+lost."""
 import itertools
 import json
 import os
@@ -7,7 +8,6 @@ import re
 import signal
 import threading
 import time
-import unittest
 from pathlib import Path
 from unittest import mock
 
@@ -43,7 +43,8 @@ class Load:
             self.faults.append(fault)
 
     def talk(self, client, number, rng, versions):
-        """Publishes over a connection; answers whether another one is to be made, since this one takes no more commands."""
+        """Publishes over a connection; answers whether another one is to be made, since this one takes no more
+        commands."""
         is_known = True
         while is_known and not self.is_over:
             lines = [publish(f"p{number}", f"1.{next(versions)}.0", [f"p{rng.randrange(4)} *"] if number > 3 else [])
@@ -57,7 +58,8 @@ class Load:
         return True
 
     def note(self, line, reply):
-        """What was told of a publication; where a program ended meanwhile, nothing is known of it. Answers whether it is known."""
+        """What was told of a publication; where a program ended meanwhile, nothing is known of it. Answers
+        whether it is known."""
         with self.lock:
             if reply.get("error") == 503:
                 self.unknown += 1
@@ -82,12 +84,12 @@ class Signals(Case):
             begun = time.monotonic()
             service.running.send_signal(number)
             status, told = service.wait()
-            self.assertLess(time.monotonic() - begun, ENDED)
+            assert time.monotonic() - begun < ENDED
             load.end()
-            self.assertEqual((status, LONG.sub("", told), load.unknown), (0, "", 0))
-            self.assertFalse(os.path.exists(service.socket))
+            assert (status, LONG.sub("", told), load.unknown) == (0, "", 0)
+            assert not os.path.exists(service.socket)
             text = service.journal.read_bytes()
-            self.assertTrue(text.endswith(b"\nend %d\n" % len(service.commands())), text[-50:])
+            assert text.endswith(b"\nend %d\n" % len(service.commands())), text[-50:]
             self.demand(load.accepted, service.commands())
             os.unlink(service.journal)
 
@@ -95,20 +97,20 @@ class Signals(Case):
         service = self.begin("--readers", 1, "--seconds", 60, changes=PATIENT[1:])
         lines, needs = pigeons(15)
         with service.client() as client, service.client() as other:
-            self.assertEqual(client.ask(*lines)[-1]["revision"], len(lines))
+            assert client.ask(*lines)[-1]["revision"] == len(lines)
             client.send(resolve(*(f"{it} *" for it in needs)), publish("behind", "1.0.0"))
             _, [reader] = service.programs()
-            self.assertFalse(is_idle(reader))  # it searches
-            self.assertEqual(other.ask(publish("log", "1.0.0"))[0]["revision"], len(lines) + 1)
+            assert not is_idle(reader)  # it searches
+            assert other.ask(publish("log", "1.0.0"))[0]["revision"] == len(lines) + 1
             begun = time.monotonic()
             status, told = service.end()
-            self.assertLess(time.monotonic() - begun, ENDED)
-            self.assertEqual((status, LONG.sub("", told), told.count(" reply=Unavailable ")), (0, "", 1), told)
+            assert time.monotonic() - begun < ENDED
+            assert (status, LONG.sub("", told), told.count(" reply=Unavailable ")) == (0, "", 1), told
             # the search was ended; the publication behind it was not begun, and so it is told
             told = client.rest().split(b"\n")
-            self.assertEqual([json.loads(it)["error"] for it in told[:-1]], [503, 503])
-        self.assertNotIn(b"behind", service.journal.read_bytes())
-        self.assertTrue(service.journal.read_bytes().endswith(b"\nend %d\n" % (len(lines) + 1)))
+            assert [json.loads(it)["error"] for it in told[:-1]] == [503, 503]
+        assert b"behind" not in service.journal.read_bytes()
+        assert service.journal.read_bytes().endswith(b"\nend %d\n" % (len(lines) + 1))
 
     def test_a_hundred_clients_are_answered_and_let_go(self):
         """What each of them had sent is answered in its order, or told not to be known, and all is over in time."""
@@ -120,25 +122,16 @@ class Signals(Case):
         wait_for(lambda: len(service.commands()) > 5)
         begun = time.monotonic()
         status, told = service.end()
-        self.assertLess(time.monotonic() - begun, ENDED)
-        self.assertEqual((status, LONG.sub("", told)), (0, ""))
+        assert time.monotonic() - begun < ENDED
+        assert (status, LONG.sub("", told)) == (0, "")
         for client, own in zip(clients, lines):
             for line, reply in zip([*own, None], client.rest().split(b"\n")[:-1]):
                 reply = json.loads(reply)
-                self.assertTrue("ok" in reply if line and "error" not in reply else reply.get("error", 503) == 503, reply)
+                assert ("ok" in reply if line and "error" not in reply else reply.get("error", 503) == 503), reply
                 if "ok" in reply:
                     accepted[reply["revision"]] = line
-        self.assertGreater(len(accepted), 5)
+        assert len(accepted) > 5
         self.demand(accepted, service.commands())
-
-    def test_a_client_that_only_waits_is_let_go(self):
-        service = self.begin()
-        with service.client() as client:
-            client.ask(LIST)
-            begun = time.monotonic()
-            self.ends_well(service)
-            self.assertLess(time.monotonic() - begun, ENDED)
-            self.assertEqual(client.rest(), b"")
 
     def test_a_program_that_is_just_begun_again_ends_the_journal(self):
         service = self.begin(changes=[("supervisor", "PAUSES", (0.5, 5)), *PATIENT])
@@ -147,9 +140,9 @@ class Signals(Case):
         service.kill_keeper()
         wait_for(lambda: 'restarts_total{program="keeper"} 1\n' in service.get("/metrics")[1])  # it knows
         begun = time.monotonic()
-        self.assertEqual(service.end()[0], 0)
-        self.assertLess(time.monotonic() - begun, ENDED)
-        self.assertTrue(service.journal.read_bytes().endswith(b"\nend 1\n"))
+        assert service.end()[0] == 0
+        assert time.monotonic() - begun < ENDED
+        assert service.journal.read_bytes().endswith(b"\nend 1\n")
 
 
 class Syncs(Case):
@@ -159,7 +152,8 @@ class Syncs(Case):
         cls.slow_sync = built(cls, "slow_sync.c")
 
     def test_a_sync_that_goes_on_is_waited_for(self):
-        """On a disk on which each takes a second: what was sent before the signal is told, and stands in the journal."""
+        """On a disk on which each takes a second: what was sent before the signal is told, and stands in the
+        journal."""
         for number in (signal.SIGTERM, signal.SIGINT):
             with mock.patch.dict(os.environ, LD_PRELOAD=self.slow_sync):
                 service = self.begin(changes=PATIENT)
@@ -168,9 +162,9 @@ class Syncs(Case):
                 wait_for(service.commands)
                 begun = time.monotonic()
                 status, _ = service.end(number)
-                self.assertLess(time.monotonic() - begun, ENDED)
-                self.assertEqual((status, client.rest()), (0, b'{"ok":true,"revision":1}\n'))
-            self.assertEqual(len(service.commands()), 1)
+                assert time.monotonic() - begun < ENDED
+                assert (status, client.rest()) == (0, b'{"ok":true,"revision":1}\n')
+            assert len(service.commands()) == 1
             os.unlink(service.journal)
 
 
@@ -187,10 +181,10 @@ class Kills(Case):
             wait_for(lambda: not any(map(is_running, keepers + readers)), ENDED)
         service.wait()
         # its socket is left, and taken by the next one
-        self.assertTrue(os.path.exists(service.socket))
+        assert os.path.exists(service.socket)
         again = self.begin()
         with again.client() as client:
-            self.assertEqual(client.ask(LIST)[0]["revision"], len(lines))
+            assert client.ask(LIST)[0]["revision"] == len(lines)
 
     def test_the_service_is_killed_at_any_moment(self):
         rng, accepted = random.Random(1), {}
@@ -205,7 +199,7 @@ class Kills(Case):
             load.end()
             accepted.update(load.accepted)
             self.demand(accepted, service.commands())
-        self.assertGreater(len(accepted), 20)
+        assert len(accepted) > 20
 
     def test_programs_are_killed_at_any_moment_and_begun_again(self):
         service, rng = self.begin(), random.Random(2)
@@ -219,84 +213,59 @@ class Kills(Case):
         load.end()
         service.keeper()  # one that was killed last may have told so much before
         metrics = service.get("/metrics")[1]
-        self.assertIn('registryd_restarts_total{program="keeper"}', metrics)
-        self.assertIn('registryd_restarts_total{program="reader"}', metrics)
+        assert 'registryd_restarts_total{program="keeper"}' in metrics
+        assert 'registryd_restarts_total{program="reader"}' in metrics
         with service.client() as client:
             # readers have what the keeper has
             revision = client.ask(publish("last", "1.0.0"))[0]["revision"]
             listed = client.ask(*[LIST] * 8)
-        self.assertEqual({it["revision"] for it in listed}, {revision})
+        assert {it["revision"] for it in listed} == {revision}
         status, told = service.end()
-        self.assertEqual(status, 0)
-        self.assertIn("program=keeper why=", told)
+        assert status == 0
+        assert "program=keeper why=" in told
         commands = service.commands()
         self.demand(load.accepted, commands)
-        self.assertEqual(len(commands), revision)
+        assert len(commands) == revision
         count = sum(len(versions) for _, versions in listed[0]["packages"])
-        self.assertEqual(count, len(commands))
-
-    def put(self, path, text):
-        """Puts a file in its place in one step: a program that is just begun reads all of it, or another one."""
-        new = Path(self.folder, "new")
-        new.write_bytes(text)
-        os.replace(new, path)
+        assert count == len(commands)
 
     def test_a_journal_that_is_moved_is_not_gone_on_with(self):
-        """No command is accepted that is not in the file of the journal's name; once the file has it again, the service goes on."""
+        """No command is accepted that is not in the file of the journal's name; once the file has it again, the
+        service goes on."""
         service, accepted = self.begin(), 0
         errors, there = Path(f"/proc/self/fd/{service.errors.fileno()}"), Path(self.folder, "there")
-        for change in (lambda: service.journal.rename(there), lambda: (os.link(service.journal, there), service.journal.unlink()),
+        for change in (lambda: service.journal.rename(there), lambda: (os.link(service.journal, there),
+                                                                       service.journal.unlink()),
                        lambda: (service.journal.rename(there), service.journal.write_bytes(there.read_bytes()[:-20])),
-                       lambda: (service.journal.rename(there), service.journal.write_bytes(there.read_bytes().replace(b"1.2.0", b"1.9.0")))):
+                       lambda: (service.journal.rename(there),
+                                service.journal.write_bytes(there.read_bytes().replace(b"1.2.0", b"1.9.0")))):
             with service.client() as client:
                 accepted = client.ask(publish("log", f"1.{accepted}.0"))[0]["revision"]
             whole = service.journal.read_bytes()
             change()
             with service.client() as client:
-                self.assertEqual(client.ask(publish("lost", f"1.{accepted}.0")), [{"error": 503, "name": "Unavailable", "revision": accepted}])
-            wait_for(lambda: re.search(rf"was changed by another program: .*\b{accepted}\b.* were accepted", errors.read_text()))
-            self.assertEqual((service.get("/health")[0], there.read_bytes()), (503, whole))
+                assert client.ask(publish("lost", f"1.{accepted}.0")) == [{"error": 503,
+                                                                           "name": "Unavailable", "revision": accepted}]
+            wait_for(lambda: re.search(rf"was changed by another program: .*\b{accepted}\b.* were accepted",
+                                       errors.read_text()))
+            assert (service.get("/health")[0], there.read_bytes()) == (503, whole)
             os.replace(there, service.journal)
             wait_for(lambda: service.get("/health")[0] == 200)
-        self.assertEqual(errors.read_text().count("changed by another program, and not gone on with"), 4)
+        assert errors.read_text().count("changed by another program, and not gone on with") == 4
         service.end()
-        self.assertEqual(service.commands(), [journal_line(publish("log", f"1.{minor}.0")).encode() for minor in range(4)])
-
-    def test_a_journal_that_lacks_what_was_told_is_not_gone_on_with(self):
-        """It is put in the journal's place while the program that keeps that can't be begun again."""
-        service = self.begin()
-        with service.client() as client:
-            client.ask(*(publish("log", f"1.{minor}.0") for minor in range(3)))
-        whole, errors = service.journal.read_bytes(), Path(f"/proc/self/fd/{service.errors.fileno()}")
-        service.journal.unlink()
-        service.journal.mkdir()
-        service.kill_keeper()
-        wait_for(lambda: errors.read_text().count("event=restart program=keeper") > 1)
-        service.journal.rmdir()
-        self.put(service.journal, whole[:whole.rindex(b'{"name"')])
-        wait_for(lambda: "was changed by another program: 3 commands were accepted, and it has 2" in errors.read_text())
-        self.assertEqual(service.get("/health")[0], 503)
-        with service.client() as client:
-            self.assertEqual(client.ask(publish("log", "1.4.0")), [{"error": 503, "name": "Unavailable", "revision": 3}])
-        self.put(service.journal, whole)
-        wait_for(lambda: service.get("/health")[0] == 200)
-        with service.client() as client:
-            self.assertEqual(client.ask(publish("log", "1.4.0")), [{"ok": True, "revision": 4}])
-        self.assertEqual(service.end()[0], 0)
+        assert service.commands() == [journal_line(publish("log", f"1.{minor}.0")).encode() for minor in range(4)]
 
     def test_a_second_service_and_a_damaged_journal_are_told(self):
         service = self.begin()
         other = Service(self.folder, "--port", 0)
         self.addCleanup(self.leave, other)
         status, told = other.wait()
-        self.assertEqual((status, told), (3, f"registry: {service.journal} is in use by another session: try again once that has ended\n"))
-        self.assertEqual(service.end()[0], 0)
+        assert (status,
+                told) == (3,
+                          f"registry: {service.journal} is in use by another session: try again once that has ended\n")
+        assert service.end()[0] == 0
         service.journal.write_text("registry-journal 2\nnonsense\nend 1\n")
         status, told = self.begin().wait()
-        self.assertEqual(status, 3)
-        self.assertIn(f"{service.journal}: line 2 is at fault", told)
-        self.assertEqual(told.count("\n"), 1)
-
-
-if __name__ == "__main__":
-    unittest.main()
+        assert status == 3
+        assert f"{service.journal}: line 2 is at fault" in told
+        assert told.count("\n") == 1

@@ -1,8 +1,8 @@
-"""A Chromium without a window that a test drives as a person would, by clicks and keys, over the pipe that its DevTools take.
+"""A Chromium without a window that a test drives as a person would, by clicks and keys, over the pipe that its DevTools
+take.
 
 What it is told and tells is https://chromedevtools.github.io/devtools-protocol.
 """
-import base64
 import contextlib
 import fcntl
 import json
@@ -14,9 +14,12 @@ import time
 
 COMMAND = "chromium"
 PATIENCE = 60  # seconds in which whatever is waited for comes, on a busy machine too
-FLAGS = ["--headless=new", "--remote-debugging-pipe", "--no-first-run", "--disable-gpu", "--disable-dev-shm-usage", "--disable-extensions",
-         "--disable-background-networking", "--disable-component-update", "--disable-sync", "--hide-scrollbars", "--force-color-profile=srgb"]
-KEYS = {"Enter": 13, "Escape": 27, "Tab": 9, "Backspace": 8, "ArrowDown": 40, "ArrowUp": 38, "ArrowLeft": 37, "ArrowRight": 39}
+FLAGS = ["--headless=new", "--remote-debugging-pipe", "--no-first-run", "--disable-gpu",
+         "--disable-dev-shm-usage", "--disable-extensions",
+         "--disable-background-networking", "--disable-component-update", "--disable-sync",
+         "--hide-scrollbars", "--force-color-profile=srgb"]
+KEYS = {"Enter": 13, "Escape": 27, "Tab": 9, "Backspace": 8, "ArrowDown": 40, "ArrowUp": 38,
+        "ArrowLeft": 37, "ArrowRight": 39}
 
 
 def high(number):
@@ -27,16 +30,18 @@ def high(number):
 
 
 class Browser:
-    """A browser with one page. `said` has what the page's script says of faults, `asked` each address that it asks for."""
+    """A browser with one page. `said` has what the page's script says of faults, `asked` each address that it asks
+    for."""
 
     def __init__(self):
         self.folder = tempfile.TemporaryDirectory(ignore_cleanup_errors=True)
         theirs_in, self.to_it = map(high, os.pipe())
         self.from_it, theirs_out = map(high, os.pipe())
         root = ["--no-sandbox"] if os.geteuid() == 0 else []
-        command = ["bash", "-c", f'exec "$@" 3<&{theirs_in} 4>&{theirs_out}', "bash", COMMAND, *FLAGS, *root, f"--user-data-dir={self.folder.name}"]
-        self.process = subprocess.Popen(command, pass_fds=(theirs_in, theirs_out), stdin=subprocess.DEVNULL, stdout=subprocess.DEVNULL,
-                                        stderr=subprocess.DEVNULL, start_new_session=True)
+        command = ["bash", "-c", f'exec "$@" 3<&{theirs_in} 4>&{theirs_out}', "bash", COMMAND, *FLAGS,
+                   *root, f"--user-data-dir={self.folder.name}"]
+        self.process = subprocess.Popen(command, pass_fds=(theirs_in, theirs_out), stdin=subprocess.DEVNULL,
+                                        stdout=subprocess.DEVNULL, stderr=subprocess.DEVNULL, start_new_session=True)
         for it in (theirs_in, theirs_out):
             os.close(it)
         self.rest, self.number, self.session, self.said, self.asked = b"", 0, None, [], []
@@ -50,7 +55,8 @@ class Browser:
     def tell(self, method, **more):
         """What the browser answers to a command."""
         self.number += 1
-        message = {"id": self.number, "method": method, "params": more, **({"sessionId": self.session} if self.session else {})}
+        message = {"id": self.number, "method": method, "params": more,
+                   **({"sessionId": self.session} if self.session else {})}
         os.write(self.to_it, json.dumps(message).encode() + b"\0")
         while True:
             heard = self.hear()
@@ -77,7 +83,8 @@ class Browser:
         """Keeps what is told without being asked for."""
         method, told = heard.get("method"), heard.get("params")
         if method == "Runtime.exceptionThrown":
-            self.said.append(told["exceptionDetails"].get("exception", {}).get("description") or told["exceptionDetails"]["text"])
+            self.said.append(told["exceptionDetails"].get("exception", {}).get("description")
+                             or told["exceptionDetails"]["text"])
         elif method == "Runtime.consoleAPICalled":
             self.said.append(" ".join(str(it.get("value")) for it in told["args"]))
         elif method == "Log.entryAdded":
@@ -93,7 +100,8 @@ class Browser:
 
     def value(self, script):
         """What an expression of the page's script is."""
-        told = self.tell("Runtime.evaluate", expression=script, returnByValue=True, awaitPromise=True, allowUnsafeEvalBlockedByCSP=False)
+        told = self.tell("Runtime.evaluate", expression=script, returnByValue=True,
+                         awaitPromise=True, allowUnsafeEvalBlockedByCSP=False)
         if "exceptionDetails" in told:
             raise AssertionError(f"{script}: {told['exceptionDetails'].get('exception', {}).get('description')}")
         return told["result"].get("value")
@@ -106,33 +114,39 @@ class Browser:
                 if self.value(f"Boolean({script})"):
                     return
             if time.monotonic() > end:
-                raise AssertionError(f"it never was: {script}; the page says {self.value('document.body.innerText')[:500]!r} and {self.said}")
+                raise AssertionError(f"it never was: {script}; the page says "
+                                     f"{self.value('document.body.innerText')[:500]!r} and {self.said}")
             time.sleep(0.03)
 
     def size(self, wide, high=900, is_dark=False):
         self.tell("Emulation.setDeviceMetricsOverride", width=wide, height=high, deviceScaleFactor=1, mobile=False)
-        self.tell("Emulation.setEmulatedMedia", features=[{"name": "prefers-color-scheme", "value": "dark" if is_dark else "light"}])
+        self.tell("Emulation.setEmulatedMedia", features=[{"name": "prefers-color-scheme",
+                                                           "value": "dark" if is_dark else "light"}])
+
+    def middle(self, selector, before=""):
+        """The middle of the first such element."""
+        return self.value(f"(() => {{ const it = document.querySelector({json.dumps(selector)}); {before}"
+                          "const box = it.getBoundingClientRect();"
+                          "return [box.x + box.width / 2, box.y + box.height / 2] })()")
+
+    def mouse(self, kind, x, y, **more):
+        self.tell("Input.dispatchMouseEvent", type=kind, x=x, y=y, **more)
 
     def click(self, selector):
         """Clicks in the middle of the first such element, wherever it is scrolled to."""
-        found = json.dumps(selector)
-        self.until(f"document.querySelector({found})")
-        x, y = self.value(f"(() => {{ const it = document.querySelector({found}); it.scrollIntoView({{block: 'center', inline: 'center'}});"
-                          f" const box = it.getBoundingClientRect(); return [box.x + box.width / 2, box.y + box.height / 2] }})()")
+        self.until(f"document.querySelector({json.dumps(selector)})")
+        place = self.middle(selector, "it.scrollIntoView({block: 'center', inline: 'center'});")
         for kind in ("mousePressed", "mouseReleased"):
-            self.tell("Input.dispatchMouseEvent", type=kind, x=x, y=y, button="left", clickCount=1)
+            self.mouse(kind, *place, button="left", clickCount=1)
 
     def drag(self, selector, across, down):
         """Moves the mouse from the middle of an element, pressed."""
-        x, y = self.value(f"(() => {{ const box = document.querySelector({json.dumps(selector)}).getBoundingClientRect();"
-                          f" return [box.x + box.width / 2, box.y + box.height / 2] }})()")
+        x, y = self.middle(selector)
         for kind, part in (("mousePressed", 0), ("mouseMoved", 0.5), ("mouseMoved", 1), ("mouseReleased", 1)):
-            self.tell("Input.dispatchMouseEvent", type=kind, x=x + across * part, y=y + down * part, button="left", clickCount=1)
+            self.mouse(kind, x + across * part, y + down * part, button="left", clickCount=1)
 
     def wheel(self, selector, down):
-        x, y = self.value(f"(() => {{ const box = document.querySelector({json.dumps(selector)}).getBoundingClientRect();"
-                          f" return [box.x + box.width / 2, box.y + box.height / 2] }})()")
-        self.tell("Input.dispatchMouseEvent", type="mouseWheel", x=x, y=y, deltaX=0, deltaY=down)
+        self.mouse("mouseWheel", *self.middle(selector), deltaX=0, deltaY=down)
 
     def type(self, text):
         """Types into what has the focus, a letter at a time."""
@@ -149,12 +163,6 @@ class Browser:
         """The back button."""
         told = self.tell("Page.getNavigationHistory")
         self.tell("Page.navigateToHistoryEntry", entryId=told["entries"][told["currentIndex"] - 1]["id"])
-
-    def picture(self, path, is_whole=False):
-        """Writes what is seen as a PNG."""
-        told = self.tell("Page.captureScreenshot", format="png", captureBeyondViewport=is_whole)
-        with open(path, "wb") as file:
-            file.write(base64.b64decode(told["data"]))
 
     def end(self):
         with contextlib.suppress(AssertionError, OSError):

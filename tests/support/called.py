@@ -1,5 +1,5 @@
-"""The tools as commands that are called in this process: to begin Python anew takes longer than most of what they do. What only
-a process of its own shows is left to tests that begin one."""
+"""The tools as commands that are called in this process: to begin Python anew takes longer than most of what they do.
+What only a process of its own shows is left to tests that begin one."""
 import io
 import os
 import sys
@@ -10,21 +10,23 @@ from tests.support.program import PROGRAM
 
 
 def called(tool, *words, given=""):
-    """The status that the module of a tool ends with, called with these words and this standard input, and what it prints: on standard output,
-    and on standard error."""
+    """The status that the module of a tool ends with, called with these words and this standard input, and what it
+    prints: on standard output, and on standard error."""
     return captured(lambda: tool.main(list(words)), given)
 
 
 def registry(*words, given="", **environment):
-    """The same of the command `registry`, over the program under test, with these variables of the environment alone."""
-    variables = {"REGISTRY_PROGRAM": PROGRAM, **{name: os.environ[name] for name in ("PATH", "HOME") if name in os.environ}, **environment}
+    """The same of the command `registry`, over the program under test, with these variables alone."""
+    variables = {"REGISTRY_PROGRAM": PROGRAM,
+                 **{name: os.environ[name] for name in ("PATH", "HOME") if name in os.environ}, **environment}
     with mock.patch.dict(os.environ, variables, clear=True):
         return captured(lambda: main.main(list(map(str, words))), given)
 
 
 def captured(call, given):
     """What a call answers or exits with, and what it prints, with this standard input."""
-    stdin, stdout, stderr = (io.TextIOWrapper(io.BytesIO(text), encoding="utf-8") for text in (given.encode(), b"", b""))
+    stdin, stdout, stderr = (io.TextIOWrapper(io.BytesIO(text), encoding="utf-8")
+                             for text in (given.encode(), b"", b""))
     with mock.patch.multiple(sys, stdin=stdin, stdout=stdout, stderr=stderr):
         try:
             status = call()

@@ -1,18 +1,20 @@
-"""The client in Python, as these tests load it, what stands for the program in their sessions, and how a session tells its end."""
+"""The client in Python, as these tests load it, what stands for the program in their sessions, and how a session tells
+its end."""
 import os
 import re
 import sys
 import tempfile
 import unittest
 
-from registryd import Ended, Publish, Registry, Resolve
+from registryd import Ended, Line, Registry, Resolve
+from tests.support import registry_folder
 from tests.support.program import PATIENCE, TOP, in_time
 
 SECONDS = PATIENCE  # that nothing here may take
 PYTHON = {**os.environ, "PYTHONPATH": os.path.join(TOP, "clients", "python")}
 SOON = 45  # seconds in which it is over, on a busy machine too, where a search would go on
-PIGEONS = 15
-HOPELESS = Resolve({f"pigeon-{pigeon}": "*" for pigeon in range(PIGEONS)})
+PLACES, BIRDS = registry_folder.pigeons(15)
+HOPELESS = Resolve({bird: "*" for bird in BIRDS})
 
 
 def read(name):
@@ -26,17 +28,15 @@ def blocks(name):
 
 
 def other(script, **more):
-    """A session with a program in Python in the place of the real one: it has answered the first line, and sleeps where the
-    session is to end it."""
+    """A session with a program in Python in the place of the real one: it has answered the first line, and sleeps where
+    the session is to end it."""
     begun = "import sys, os, time\nsys.stdin.readline()\nprint('{\"revision\":0,\"selected\":[]}', flush=True)\n"
     return Registry([sys.executable, "-c", begun + script], **more)
 
 
 def pigeons(registry):
-    """Publishes pigeons with one hole too few, and answers a request for all of them, whose search outlasts each test."""
-    holes = [Publish(f"hole-{hole}", f"{pigeon}.0.0") for hole in range(PIGEONS - 1) for pigeon in range(PIGEONS)]
-    birds = [Publish(f"pigeon-{pigeon}", f"{hole}.0.0", {f"hole-{hole}": f"={pigeon}.0.0"}) for pigeon in range(PIGEONS) for hole in range(PIGEONS - 1)]
-    for future in registry.many(holes + birds):
+    """Publishes pigeons with one hole too few, and answers a request for all, whose search outlasts each test."""
+    for future in registry.many(Line(line.encode()) for line in PLACES):
         future.result(SECONDS)
     return HOPELESS
 

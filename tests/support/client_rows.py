@@ -15,9 +15,11 @@ EXPLAINED = [(it["explanation"], it["sentences"]) for it in rows("refusals.rows"
 # What is published before the requests of the others.
 PUBLISHED = [publish("a", "1.0.0"), yank("a", "1.0.0"), publish("b", "1.0.0")]
 # Requests, each with its error and the place, the package, the text and what was meant.
-CULPRITS = [(it["asked"], it["error"], it["place"], it["package"], it["text"], it["meant"]) for it in rows("culprits.rows")]
+CULPRITS = [(it["asked"], it["error"], it["place"], it["package"], it["text"], it["meant"])
+            for it in rows("culprits.rows")]
 
 
 def line_of(explanation):
     """The reply line that has an explanation."""
-    return json.dumps({"derivation": [], "explanation": explanation, "refused": True, "revision": 6}, separators=(",", ":"))
+    return json.dumps({"derivation": [], "explanation": explanation, "refused": True, "revision": 6},
+                      separators=(",", ":"))

@@ -3,6 +3,10 @@ something that surely does not, and answers that it did; or it finds nothing to 
 from tests.support.refuter import BEYOND, CHOICES, ROOT, conclude
 
 FINAL = ([], [[ROOT, True, [0]]])
+STRANGE = [{"fact": "root", "index": 0}, {"fact": "ROOT"}, {}, {"line": 1, "fact": "root"},
+           {"fact": "disallowed", "name": ROOT, "versions": []},
+           {"fact": "disallowed", "name": "nobody", "versions": [0]},
+           {"fact": "line", "line": 1}, {"fact": "judge"}, {"fact": ["root"]}]
 
 
 class Damage:
@@ -16,63 +20,64 @@ class Damage:
         place = self.rng.randrange(len(self.rows))
         return place, self.rows[place]
 
+    def conclusion(self, change, *, is_empty=False):
+        """Changes what any line concludes, where that has a term."""
+        _, row = self.row()
+        if not row["conclusion"] and not is_empty:
+            return False
+        return change(row["conclusion"]) is not False
+
     def cause(self, kind):
         """Any cause of a kind with its line's place and its own, or none."""
         found = [(place, side, it) for place, row in enumerate(self.rows) for side, it in enumerate(row["causes"])
                  if it.get("fact", "line") == kind]
         return self.rng.choice(found) if found else (None, None, None)
 
-    def changes(self, place, side, name, choices):
-        """Whether the line would conclude something else if this cause had another term on a package."""
+    def concludes_otherwise(self, place, said):
+        """Whether a line would conclude something else from causes that say this."""
+        row = self.rows[place]
+        return self.known.written(conclude(*said, row["pivot"])) != row["conclusion"]
+
+    def with_term(self, place, side, name, choices):
+        """What the causes of a line say where one has another term on a package."""
         said = list(self.said[place])
         said[side] = {**said[side], name: frozenset(choices)}
-        return self.known.written(conclude(*said, self.rows[place]["pivot"])) != self.rows[place]["conclusion"]
+        return said
 
     # What a line concludes
 
     def a_conclusion_with_another_set(self):
-        _, row = self.row()
-        if row["conclusion"]:
-            term = self.rng.choice(row["conclusion"])
+        def change(terms):
+            term = self.rng.choice(terms)
             term[2] = sorted(set(term[2]) ^ {self.rng.randrange(4)})
-        return bool(row["conclusion"])
+        return self.conclusion(change)
 
     def a_conclusion_with_another_sign(self):
-        _, row = self.row()
-        if row["conclusion"]:
-            term = self.rng.choice(row["conclusion"])
+        def change(terms):
+            term = self.rng.choice(terms)
             term[1] = not term[1]
-        return bool(row["conclusion"])
+        return self.conclusion(change)
 
     def a_conclusion_without_a_term(self):
-        _, row = self.row()
-        told = list(row["conclusion"])
-        if told:
-            row["conclusion"].remove(self.rng.choice(told))
-        return bool(told)
+        return self.conclusion(lambda terms: terms.remove(self.rng.choice(terms)))
 
     def a_conclusion_with_another_term(self):
-        _, row = self.row()
-        free = [name for name in self.known.names if name not in [term[0] for term in row["conclusion"]]]
-        if free:
-            row["conclusion"].append([self.rng.choice(free), self.rng.random() < 0.5, self.rng.choice([[], [0]])])
-            row["conclusion"].sort(key=lambda term: self.known.names.index(term[0]))
-        return bool(free)
+        def change(terms):
+            free = [name for name in self.known.names if name not in [term[0] for term in terms]]
+            if not free:
+                return False
+            terms.append([self.rng.choice(free), self.rng.random() < 0.5, self.rng.choice([[], [0]])])
+            terms.sort(key=lambda term: self.known.names.index(term[0]))
+        return self.conclusion(change, is_empty=True)
 
     def a_conclusion_out_of_order(self):
-        _, row = self.row()
-        row["conclusion"].reverse()
-        return len(row["conclusion"]) > 1
+        return self.conclusion(lambda terms: terms.reverse() if len(terms) > 1 else False)
 
     def a_conclusion_with_a_term_twice(self):
-        _, row = self.row()
-        row["conclusion"] += row["conclusion"][-1:]
-        return bool(row["conclusion"])
+        return self.conclusion(lambda terms: terms.append(terms[-1]))
 
     def a_conclusion_on_an_unknown_package(self):
-        _, row = self.row()
-        row["conclusion"].append(["nobody", True, [0]])
-        return True
+        return self.conclusion(lambda terms: terms.append(["nobody", True, [0]]), is_empty=True)
 
     # Pivots and cited lines
 
@@ -80,8 +85,7 @@ class Damage:
         place, row = self.row()
         first, second = self.said[place]
         row["pivot"] = self.rng.choice([it for it in [*self.known.names, "nobody"] if it != row["pivot"]])
-        return row["pivot"] not in {**first, **second} or self.known.written(conclude(first, second,
-                                                                                      row["pivot"])) != row["conclusion"]
+        return row["pivot"] not in {**first, **second} or self.concludes_otherwise(place, (first, second))
 
     def a_cited_line_that_does_not_stand_before(self):
         place, row = self.row()
@@ -95,9 +99,9 @@ class Damage:
             return False
         cause["line"] = self.rng.choice([it for it in range(1, place + 1) if it != cause["line"]])
         said = list(self.said[place])
-        said[side] = {name: frozenset(it) if inside else CHOICES - set(it) for name, inside,
-                      it in self.rows[cause["line"] - 1]["conclusion"]}
-        return self.known.written(conclude(*said, self.rows[place]["pivot"])) != self.rows[place]["conclusion"]
+        said[side] = {name: frozenset(it) if inside else CHOICES - set(it)
+                      for name, inside, it in self.rows[cause["line"] - 1]["conclusion"]}
+        return self.concludes_otherwise(place, said)
 
     def no_last_line(self):
         self.rows.pop()
@@ -105,36 +109,36 @@ class Damage:
 
     # Facts
 
-    def a_requirement_of_another_dependency(self):
+    def premise(self, change):
+        """Changes any premise; whether it then tells a dependency that a version of it does not have."""
         _, _, cause = self.cause("premise")
-        if cause:
-            texts = {text for name in self.known.names for _, needs, _ in self.known.releases(name) for _, text in needs}
-            cause["need"] = self.rng.choice(sorted((texts | {"=9.9.9"}) - {cause["need"]}))
-        return cause is not None and self.lacks(cause)
-
-    def another_target(self):
-        _, _, cause = self.cause("premise")
-        if cause:
-            cause["target"] = self.rng.choice([*self.known.names, cause["name"], "nobody"])
-        return cause is not None and self.lacks(cause)
-
-    def lacks(self, cause):
-        """Whether a version of a premise does not have the dependency that it tells."""
-        held = self.known.releases(cause["name"])
-        wanted = [cause["target"], cause["need"]]
+        if not cause:
+            return False
+        change(cause)
+        held, wanted = self.known.releases(cause["name"]), [cause["target"], cause["need"]]
         return any(it >= len(held) or wanted not in held[it][1] for it in cause["versions"])
 
+    def a_requirement_of_another_dependency(self):
+        texts = {text for name in self.known.names for _, needs, _ in self.known.releases(name) for _, text in needs}
+
+        def change(cause):
+            cause["need"] = self.rng.choice(sorted((texts | {"=9.9.9"}) - {cause["need"]}))
+        return self.premise(change)
+
+    def another_target(self):
+        return self.premise(
+            lambda cause: cause.update(target=self.rng.choice([*self.known.names, cause["name"], "nobody"])))
+
     def a_version_too_many(self):
-        _, _, cause = self.cause("premise")
-        if cause:
-            cause["versions"] = sorted({*cause["versions"], self.rng.choice([0, 1, 2, BEYOND])})
-        return cause is not None and self.lacks(cause)
+        return self.premise(lambda cause: cause.update(
+            versions=sorted({*cause["versions"], self.rng.choice([0, 1, 2, BEYOND])})))
 
     def a_version_too_few(self):
         place, side, cause = self.cause("premise")
         if cause:
             cause["versions"].remove(self.rng.choice(cause["versions"]))
-        return cause is not None and (not cause["versions"] or self.changes(place, side, cause["name"], cause["versions"]))
+        return bool(cause) and (not cause["versions"] or self.concludes_otherwise(
+            place, self.with_term(place, side, cause["name"], cause["versions"])))
 
     def within_one_version_short(self):
         _, _, cause = self.cause("premise")
@@ -147,19 +151,20 @@ class Damage:
         place, side, cause = self.cause("premise")
         if cause:
             cause["within"] = sorted({*cause["within"], self.rng.randrange(BEYOND)})
-        return cause is not None and self.changes(place, side, cause["target"], CHOICES - set(cause["within"]))
+        return bool(cause) and self.concludes_otherwise(
+            place, self.with_term(place, side, cause["target"], CHOICES - set(cause["within"])))
 
     def a_need_that_is_not_there(self):
         _, _, cause = self.cause("need")
         if cause:
             cause["index"] = len(self.request["needs"]) + self.rng.randrange(3)
-        return cause is not None
+        return bool(cause)
 
     def a_need_that_is_left_out_of_the_request(self):
         _, _, cause = self.cause("need")
         if cause:
             self.request["needs"] = self.request["needs"][:cause["index"]]
-        return cause is not None
+        return bool(cause)
 
     def an_allowed_version_called_not_allowed(self):
         _, _, cause = self.cause("disallowed")
@@ -182,13 +187,9 @@ class Damage:
 
     def another_kind_of_cause(self):
         _, row = self.row()
-        side = self.rng.randrange(2)
-        strange = [{"fact": "root", "index": 0}, {"fact": "ROOT"}, {}, {"line": 1, "fact": "root"},
-                   {"fact": "disallowed", "name": ROOT, "versions": []},
-                   {"fact": "disallowed", "name": "nobody", "versions": [0]}, {"fact": "line", "line": 1}, {"fact": "judge"},
-                   {"fact": ["root"]}]
-        row["causes"][side] = self.rng.choice(strange)
+        row["causes"][self.rng.randrange(2)] = self.rng.choice(STRANGE)
         return True
 
 
-KINDS = [name for name in vars(Damage) if name not in ("row", "cause", "changes", "lacks") and not name.startswith("__")]
+HELPERS = "row", "conclusion", "cause", "concludes_otherwise", "with_term", "premise"
+KINDS = [name for name in vars(Damage) if name not in HELPERS and not name.startswith("__")]

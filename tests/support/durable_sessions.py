@@ -23,7 +23,8 @@ class Client:
 
     def __init__(self, words, **more):
         # the little that it says on standard error waits in the pipe
-        self.running = tied.Tied([PROGRAM, *map(str, words)], stdin=subprocess.PIPE, stdout=subprocess.PIPE, stderr=subprocess.PIPE, bufsize=0,
+        self.running = tied.Tied([PROGRAM, *map(str, words)], stdin=subprocess.PIPE, stdout=subprocess.PIPE,
+                                 stderr=subprocess.PIPE, bufsize=0,
                                  **more)
         self.read = b""
 
@@ -59,7 +60,7 @@ class Client:
         self.leave()
 
     def leave(self):
-        """Ends the input, reads what is left of the replies, and waits. Answers the status, and what stood on standard error."""
+        """Ends the input, reads what is left of the replies, and waits. Answers the status and standard error."""
         try:
             self.running.stdin.close()
         except BrokenPipeError:
@@ -70,8 +71,8 @@ class Client:
 
 
 def accepted(lines, before=()):
-    """The commands among these lines that are accepted behind those before, as a journal has them, each with its line's number
-    from 1."""
+    """The commands among these lines that are accepted behind those before, as a journal has them, each with its line's
+    number from 1."""
     return list(accepted_of(tuple(lines), tuple(before)))
 
 
@@ -92,27 +93,29 @@ def accepted_of(lines, before):
 
 
 def fault_of(text, lines, count, before=()):
-    """What is wrong with a journal's file once so many of these lines have their replies; nothing where it has all that it must have
-    and nothing else, in order. The file begins with the commands before them."""
+    """What is wrong with a journal's file once so many of these lines have their replies; nothing where it has all that
+    it must have and nothing else, in order. The file begins with the commands before them."""
     try:
         found = remnant(text).commands
     except NoRemnant as fault:
         return str(fault)
     every = accepted(lines, before)
-    told, most = [*before, *(line for number, line in every if number <= count)], [*before, *(line for _, line in every)]
+    told, most = [*before,
+                  *(line for number, line in every if number <= count)], [*before, *(line for _, line in every)]
     if found[:len(told)] != told:
         return f"what was told is not in the file: {told[-1]}, {len(found)} of {len(told)}"
     return None if found == most[:len(found)] else f"the file has what nobody asked for: {found[-1]}"
 
 
 class Watched:
-    """A client of a program whose calls are noted, and which may be killed at one of them, or get another signal there."""
+    """A client of a program whose calls are noted, and which gets a signal at one of them."""
 
     def __init__(self, library, words, kill=0, side="", folder=None, before=(), number=signal.SIGKILL):
         self.log = tempfile.TemporaryFile(buffering=0)
         # each line goes behind the others, whoever writes it
         log = os.open(f"/proc/self/fd/{self.log.fileno()}", os.O_WRONLY | os.O_APPEND)
-        env = {**os.environ, "LD_PRELOAD": " ".join([*before, library]), "WATCH_TO": str(log), "WATCH_KILL": str(kill), "WATCH_SIDE": side,
+        env = {**os.environ, "LD_PRELOAD": " ".join([*before, library]), "WATCH_TO": str(log), "WATCH_KILL": str(kill),
+               "WATCH_SIDE": side,
                "WATCH_SIGNAL": str(int(number))}
         try:
             self.client = Client(words, env=env, pass_fds=[log], cwd=folder)

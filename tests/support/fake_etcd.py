@@ -1,5 +1,5 @@
-"""A gate before etcd's JSON gateway, which may lose what is asked or what is answered; and a small etcd to stand behind it
-where none is installed. The small one has what the fronts use, as etcd's documents tell it, and no more."""
+"""A gate before etcd's JSON gateway, which may lose what is asked or what is answered; and a small etcd to stand behind
+it where none is installed. The small one has what the fronts use, as etcd's documents tell it, and no more."""
 import json
 import threading
 from base64 import b64decode, b64encode
@@ -11,7 +11,8 @@ class Drop(Exception):
 
 
 class Gate(ThreadingHTTPServer):
-    """A server on loopback over something that answers. Its hook is called before and after each call that it passes on."""
+    """A server on loopback over something that answers. Its hook is called before and after each call that it
+    passes on."""
     daemon_threads = True
 
     def __init__(self, behind, hook=lambda moment, path, asked: None):
@@ -85,9 +86,9 @@ class SmallMember:
 
 
 class SmallEtcd:
-    """Keys with their revisions, in memory. Where it has a quota, its file takes no more bytes than that: what was deleted or written over
-    counts until it is compacted, and the file has its size until it is defragmented. Behind an alarm nothing is put, as etcd's page "Space
-    quota" says."""
+    """Keys with their revisions, in memory. Where it has a quota, its file takes no more bytes than that: what was
+    deleted or written over counts until it is compacted, and the file has its size until it is defragmented. Behind an
+    alarm nothing is put, as etcd's page "Space quota" says."""
     quota, past, size, is_full = None, 0, 0, False
 
     def __init__(self):
@@ -104,7 +105,8 @@ class SmallEtcd:
 
     def answer(self, path, asked):
         calls = {"/v3/kv/range": self.range, "/v3/kv/put": lambda it: self.write([("request_put", it)])[0],
-                 "/v3/kv/txn": self.transact, "/v3/kv/compaction": self.compact, "/v3/maintenance/defragment": self.defragment,
+                 "/v3/kv/txn": self.transact, "/v3/kv/compaction": self.compact,
+                 "/v3/maintenance/defragment": self.defragment,
                  "/v3/maintenance/alarm": self.alarm}
         with self.changed:
             if self.has_no_room(path, asked):
@@ -113,7 +115,8 @@ class SmallEtcd:
 
     def has_no_room(self, path, asked):
         """Whether something is to be put for which there is no room; then there is an alarm."""
-        puts = [asked] if path == "/v3/kv/put" else [it["request_put"] for it in asked.get("success", []) if "request_put" in it]
+        puts = [asked] if path == "/v3/kv/put" else [it["request_put"]
+                                                     for it in asked.get("success", []) if "request_put" in it]
         more = sum(len(b64decode(it["key"])) + len(b64decode(it["value"])) for it in puts)
         self.is_full = self.is_full or bool(self.quota and puts) and self.size + more > self.quota
         return self.is_full and bool(puts)
@@ -159,7 +162,8 @@ class SmallEtcd:
 
     def holds(self, compared):
         created, changed, _, _ = self.kept.get(b64decode(compared["key"]), (0, 0, 0, b""))
-        found, wanted = {"CREATE": (created, compared.get("create_revision")), "MOD": (changed, compared.get("mod_revision"))}[compared["target"]]
+        found, wanted = {"CREATE": (created, compared.get("create_revision")),
+                         "MOD": (changed, compared.get("mod_revision"))}[compared["target"]]
         return {"EQUAL": found == int(wanted), "GREATER": found > int(wanted)}[compared["result"]]
 
     def write(self, writes):

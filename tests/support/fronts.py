@@ -1,5 +1,5 @@
-"""Fronts over etcd as a client sees them, and a judge of what several of them answered by the journal that is printed in
-the end. The judge shares nothing with the fronts and the program."""
+"""Fronts over etcd as a client sees them, and a judge of what several of them answered by the journal that is printed
+in the end. The judge shares nothing with the fronts and the program."""
 import bisect
 import itertools
 import json
@@ -20,7 +20,8 @@ STAMP = re.compile(r'"place":(\d+),(.*)"revision":(\d+),"seat":(\d+)')
 
 
 class Told(NamedTuple):
-    """A line with its reply, when the one was asked and the other there, and whether the front was begun again in between."""
+    """A line with its reply, when the one was asked and the other there, and whether the front was begun again in
+    between."""
     line: str
     reply: str
     asked: float
@@ -47,9 +48,9 @@ def run(what, endpoints, *more, given=b""):
 
 
 class Front:
-    """A front that is asked, line by line or several at once. It may be killed, and is begun again by the same name with the same lines.
-    Where cells may be dropped it may say that a reply is no longer kept: then it goes on by another name, and of the lines that had no
-    reply it is open whether they stand."""
+    """A front that is asked, line by line or several at once. It may be killed, and is begun again by the same name
+    with the same lines. Where cells may be dropped it may say that a reply is no longer kept: then it goes on by
+    another name, and of the lines that had no reply it is open whether they stand."""
 
     def __init__(self, endpoints, seat, *more, writer=None, may_forget=False):
         self.words = words("serve", endpoints, "--seat", str(seat), *more)
@@ -59,9 +60,11 @@ class Front:
         self.open = []  # lines that may stand
 
     def begin(self):
-        """Begins, or begins again, and then asks once more what was answered: what stands in a cell is answered as before."""
+        """Begins, or begins again, and then asks once more what was answered: what stands in a cell is answered
+        as before."""
         named = ["--writer", f"{self.writer}-{self.names}" if self.names else self.writer] if self.writer else []
-        self.child = tied.Tied(self.words + named, stdin=subprocess.PIPE, stdout=subprocess.PIPE, stderr=subprocess.PIPE, text=True)
+        self.child = tied.Tied(self.words + named, stdin=subprocess.PIPE, stdout=subprocess.PIPE,
+                               stderr=subprocess.PIPE, text=True)
         told = self.told[self.first:]
         for old, reply in zip(told, self.replies([old.line for old in told])):
             # one that was published before may have been answered without a cell, and is answered anew then
@@ -76,7 +79,8 @@ class Front:
                 some = lines[at:at + 100]
                 self.child.stdin.write("".join(line + "\n" for line in some))
                 self.child.stdin.flush()
-                told += itertools.takewhile(lambda reply: reply.endswith("\n"), (self.child.stdout.readline() for _ in some))
+                told += itertools.takewhile(lambda reply: reply.endswith("\n"),
+                                            (self.child.stdout.readline() for _ in some))
                 if len(told) < at + len(some):
                     break
         except OSError:
@@ -94,7 +98,8 @@ class Front:
         while True:
             replies = self.send(lines)
             if replies is not None:
-                self.told += [Told(line, reply, asked, time.monotonic(), is_again) for line, reply in zip(lines, replies)]
+                self.told += [Told(line, reply, asked, time.monotonic(), is_again) for line,
+                              reply in zip(lines, replies)]
                 return replies
             status, said = self.end()
             if status == 1 and self.may_forget and NOT_KEPT in said:
@@ -120,20 +125,20 @@ class Front:
 
 
 def fault(printed, fronts, opened=()):
-    """What is wrong with what these lists of `Told` say, if the printed file is the journal; nothing where all is right. Of opened lines
-    nobody was told whether they stand."""
+    """What is wrong with what these lists of `Told` say, if the printed file is the journal; nothing where all is
+    right. Of opened lines nobody was told whether they stand."""
     lines = printed.split("\n")
     if lines[0] != "registry-journal 1" or lines[-2:] != [f"end {len(lines) - 3}", ""]:
         return f"no journal: {lines[:1]} .. {lines[-2:]}"
     journal, told = lines[1:-2], [it for front in fronts for it in front]
-    return (next(filter(None, map(order_fault, fronts)), None) or accepted_fault(journal, told, opened) or place_fault(told)
-            or time_fault(told) or lawful_fault(journal, told))
+    return (next(filter(None, map(order_fault, fronts)), None) or accepted_fault(journal, told, opened)
+            or place_fault(told) or time_fault(told) or lawful_fault(journal, told))
 
 
 def order_fault(front):
-    """Within one front places and revisions never go back, and each accepted command has a place of its own behind those
-    before it. Where a front was begun again, a command that stood already has its place from before, though a line that
-    changes nothing and was sent in front of it is answered anew."""
+    """Within one front places and revisions never go back, and each accepted command has a place of its own behind
+    those before it. Where a front was begun again, a command that stood already has its place from before, though a
+    line that changes nothing and was sent in front of it is answered anew."""
     before = accepted = (0, 0)
     for it in front:
         here, is_accepted = (it.found["place"], it.found["revision"]), "ok" in it.found
@@ -160,7 +165,8 @@ def accepted_fault(journal, told, opened):
     missing = [number for number in stands if number > len(journal)]
     if untold or missing:
         return f"{len(journal)} entries, and commands were accepted at {sorted(untold + missing)[:5]} .."
-    return next((f"{it.line} does not stand at {number}" for number, it in stands.items() if journal[number - 1] != journal_line(it.line)), None)
+    return next((f"{it.line} does not stand at {number}" for number, it in stands.items() if journal[number - 1]
+                 != journal_line(it.line)), None)
 
 
 def taken(lines, line):
@@ -210,7 +216,8 @@ def lawful_fault(journal, told):
             if wrong:
                 return f"{it.line} {it.reply}: {wrong}"
         if number < len(journal):
-            wrong = session.fault(journal[number].encode(), json.dumps({"ok": True, "revision": number + 1}, separators=(",", ":")))
+            wrong = session.fault(journal[number].encode(),
+                                  json.dumps({"ok": True, "revision": number + 1}, separators=(",", ":")))
             if wrong or read_request(journal[number].encode()) is None:
                 return f"entry {number + 1}: {wrong}"
     return f"no such revision: {by_revision}" if by_revision else None

@@ -3,16 +3,8 @@ first line say what it shows. A row is a request line in bytes, without its line
 import json
 
 from registry_cli.limits import (
-    MOST_COMMANDS,
-    MOST_LINE_BYTES,
-    MOST_NAME_BYTES,
-    MOST_NEEDS,
-    MOST_PACKAGES,
-    MOST_REQUIREMENT_BYTES,
-    MOST_VERSION_BYTES,
-    MOST_VERSIONS,
-)
-from tests.support.generated_lines_terms import terms_at_the_edges_of_words
+    MOST_COMMANDS, MOST_LINE_BYTES, MOST_NAME_BYTES, MOST_NEEDS, MOST_PACKAGES, MOST_REQUIREMENT_BYTES,
+    MOST_VERSION_BYTES, MOST_VERSIONS)
 from tests.support.program import publish, resolve, unyank, yank
 
 LIST = b'{"op":"list"}'
@@ -36,8 +28,10 @@ def long_version(number):
 
 def lines_at_the_limit_of_their_length():
     """A line of the most bytes is read, one byte more is too much, and the line behind it is read again."""
-    for length, reply in ((MOST_LINE_BYTES, EMPTY), (MOST_LINE_BYTES + 1, BAD_LINE), (3_000_000, BAD_LINE)):
-        yield LIST.rjust(length), reply
+    for line, reply in ((LIST.rjust(MOST_LINE_BYTES), EMPTY), (LIST.ljust(MOST_LINE_BYTES), EMPTY),
+                        (LIST.rjust(MOST_LINE_BYTES + 1), BAD_LINE),
+                        (LIST.ljust(MOST_LINE_BYTES + 1), BAD_LINE), (b"x" * 5_000_000, BAD_LINE)):
+        yield line, reply
         yield LIST, EMPTY
 
 
@@ -66,7 +60,8 @@ def needs_past_the_most_of_a_publication():
 def needs_past_the_most_of_a_request():
     """Of a request too all needs are judged, those past the most that it may have among them."""
     def line(count, name, requirement):
-        return compact({"op": "resolve", "needs": [[f"b{number}", "^1"] for number in range(count)] + [[name, requirement]]})
+        return compact({"op": "resolve", "needs": [[f"b{number}", "^1"] for number in range(count)]
+                        + [[name, requirement]]})
 
     more = MOST_NEEDS + 1
     yield line(MOST_NEEDS - 1, "c", "^1"), '{"refused":true,"revision":0}'
@@ -77,43 +72,18 @@ def needs_past_the_most_of_a_request():
     yield line(more, "B", "none"), '{"error":1,"name":"BadName","revision":0}'
 
 
-def each_count_of_needs_up_to_the_most():
-    """A request of each count of needs that it may have selects them all, in whatever order they come, and one that repeats its
-    first need is refused."""
-    names = [f"n{number:02}" for number in range(MOST_NEEDS)]
-    yield from accepted([publish(name, "1.0.0").encode() for name in names])
-    for count in range(MOST_NEEDS + 1):
-        needs = [[name, "^1"] for name in names[:count]]
-        reply = compact({"revision": MOST_NEEDS, "selected": [[name, "1.0.0"] for name in names[:count]]}).decode()
-        for listed in (needs, needs[::-1]):
-            yield compact({"op": "resolve", "needs": listed}), reply
-        if needs:
-            twice = compact({"op": "resolve", "needs": [*needs, ["n00", "*"]]})
-            yield twice, f'{{"error":4,"name":"RepeatedDependency","revision":{MOST_NEEDS}}}'
-    more = compact({"op": "resolve", "needs": [[name, "^1"] for name in [*names, "more"]]})
-    yield more, f'{{"error":6,"name":"TooManyDependencies","revision":{MOST_NEEDS}}}'
-
-
 def a_selection_longer_than_the_room_of_replies():
     """A selection of 270 packages, each with a long version, is told whole."""
     names = [f"a{number}" for number in range(270)]
     # each but the last needs the next one
     needs = [[[f"a{number + 1}", f">={number + 1}.0.0-0"]] if number < 269 else [] for number in range(270)]
-    yield from accepted([compact({"op": "publish", "name": name, "version": long_version(number), "needs": needs[number]})
+    yield from accepted(
+        [compact({"op": "publish", "name": name, "version": long_version(number), "needs": needs[number]})
                          for number, name in enumerate(names)])
     rows = sorted([name, long_version(number)] for number, name in enumerate(names))
     reply = compact({"revision": 270, "selected": rows}).decode()
     assert len(reply) > 65_536
     yield compact({"op": "resolve", "needs": [["a0", ">=0.0.0-0"]]}), reply
-
-
-def a_listing_longer_than_the_room_of_replies():
-    """A listing of 270 versions, each with a long text, is told whole."""
-    versions = [long_version(number) for number in range(270)]
-    yield from accepted([compact({"op": "publish", "name": "a", "version": version, "needs": []}) for version in versions])
-    reply = compact({"packages": [["a", [[version, False] for version in versions]]], "revision": 270}).decode()
-    assert len(reply) > 65_536
-    yield LIST, reply
 
 
 def the_most_versions_and_dependencies():
@@ -132,7 +102,8 @@ def the_most_versions_and_dependencies():
 
 
 def the_most_names_of_packages():
-    """As many names are numbered as may be, those that are only needed among them: a line that would number one more is refused."""
+    """As many names are numbered as may be, those that are only needed among them: one that would number more is
+    refused."""
     def line(name, needs):
         return publish(name, "1.0.0", [f"{name}-{number} ^1" for number in range(needs)]).encode()
 
@@ -146,50 +117,89 @@ def the_most_names_of_packages():
 
 
 def the_most_commands_of_a_session():
-    """As many commands are accepted as may be, here a publication that is yanked and restored. Then none is, and a refusal of a
-    lower number is told before that."""
+    """As many commands are accepted as may be, here a publication that is yanked and restored. Then none is, and a
+    refusal of a lower number is told before that."""
     turns = [yank("a", "1.0.0").encode(), unyank("a", "1.0.0").encode()]
     yield from accepted([publish("a", "1.0.0").encode(), *(turns[number % 2] for number in range(MOST_COMMANDS - 1))])
     full = f'{{"error":10,"name":"JournalFull","revision":{MOST_COMMANDS}}}'
     for line in (yank("a", "2.0.0"), yank("a", "1.0.0"), unyank("a", "1.0.0"), publish("b", "0.0.0")):
         yield line.encode(), full
-    yield publish("a", "1.0.0").encode(), full.replace('10,"name":"JournalFull"', '7,"name":"AlreadyPublished"')
+    for line, lower in ((publish("a", "1.0.0"), '7,"name":"AlreadyPublished"'),
+                        (publish("q", "1.0.0", ["q ^1"]), '5,"name":"SelfDependency"')):
+        yield line.encode(), full.replace('10,"name":"JournalFull"', lower)
+
+
+def refused_by(conflicts, published, needs):
+    """After these publications, a request that meets so many conflicts is refused by that budget, and not by a lower
+    one. The lower ones come first, since an answer would spare the next ones a conflict."""
+    yield from accepted([line.encode() for line in published])
+    revision = len(published)
+    spent = '{"error":22,"name":"BudgetSpent","revision":%d}' % revision
+    refused = '{"refused":true,"revision":%d}' % revision
+    for budget in range(conflicts):
+        yield resolve(*needs, budget=budget).encode(), spent
+    for budget in (conflicts, 4_294_967_295, None):
+        yield resolve(*needs, budget=budget).encode(), refused
+
+
+def beside(count, *published):
+    """Publications of so many packages, each in two versions, and these; and needs on them, on `x` and on `t`."""
+    names = [f"p{number}" for number in range(1, count + 1)]
+    packages = [publish(name, version) for name in names for version in ("1.0.0", "1.1.0")]
+    return [*packages, *published, publish("t", "1.0.0"),
+            publish("t", "2.0.0")], [*(f"{name} *" for name in names), "x *", "t ^1.0.0"]
+
+
+def a_conflict_that_goes_back_over_many_decisions():
+    """The first conflict is on `y` and goes back to the first level, the second is on `x` and ends the search."""
+    yield from refused_by(2, *beside(40, publish("x", "1.0.0", ["y *"]), publish("x", "1.1.0", ["y *"]),
+                                     publish("y", "1.0.0", ["t ^2.0.0"])))
+
+
+def of_four_versions(*needs):
+    """Four versions of `x`, which have these needs, and of `y`."""
+    return [*(publish("x", f"1.{minor}.0", [need]) for minor, need in enumerate(needs)),
+            *(publish("y", f"1.{minor}.0", ["t ^2.0.0"]) for minor in range(4))]
+
+
+def what_many_versions_have_in_common_waits_for_no_decision():
+    """With four versions of `x` and of `y` each, what they need follows at once, so the first conflict ends the
+    search."""
+    yield from refused_by(1, *beside(8, *of_four_versions("y *", "y *", "y *", "y *")))
 
 
 def budgets_in_other_words():
-    """A request that meets two conflicts, as `test_resolving.py` tells of it: a budget of two serves in whatever words it
-    is told, and a budget of one is spent. Those that stop a search come first, since an answer would spare the next ones
-    a conflict."""
-    minors = [f"1.{number}.0" for number in range(4)]
-    names = [f"p{number}" for number in range(1, 9)]
-    needs = {minor: ["y *"] for minor in minors} | {"1.3.0": ["y >=1.0.0"]}
-    lines = [*(publish(name, version) for name in names for version in ("1.0.0", "1.1.0")),
-             *(publish("x", version, needs[version]) for version in minors),
-             *(publish("y", version, ["t ^2.0.0"]) for version in minors), publish("t", "1.0.0"), publish("t", "2.0.0")]
-    yield from accepted([line.encode() for line in lines])
-    asked = json.loads(resolve(*(f"{name} *" for name in names), "x *", "t ^1.0.0"))["needs"]
-    rest = b'"op":"resolve","needs":' + compact(asked)
+    """Where the highest version needs something else, `x` is decided, and the search goes back: a budget of two
+    conflicts serves in whatever words it is told, and a budget of one is spent."""
+    published, needs = beside(8, *of_four_versions("y *", "y *", "y *", "y >=1.0.0"))
+    yield from accepted([line.encode() for line in published])
+    rest = b'"op":"resolve","needs":' + compact(json.loads(resolve(*needs))["needs"])
     spent, refused = '{"error":22,"name":"BudgetSpent","revision":26}', '{"refused":true,"revision":26}'
-    texts = (b'{%s,"budget":N}', b'{"budget":N,%s}', b'{"budget" : N ,%s}', b'{%s,"b\\u0075dget":N}', b'{%s,"lock":[],"budget":N}',
+    texts = (b'{%s,"budget":N}', b'{"budget":N,%s}', b'{"budget" : N ,%s}', b'{%s,"b\\u0075dget":N}',
+             b'{%s,"lock":[],"budget":N}',
              b'{%s,"budget":1.0,"budget":N}', b'{%s,"budget":0,"budget":4294967295,"budget":N}')
     for budget, reply in ((b"0", spent), (b"1", spent), (b"2", refused), (b"3", refused), (b"20", refused),
                           (b"4294967295", refused), (b"4294967296", BAD_LINE.replace(":0}", ":26}"))):
         for text in texts:
-            yield text.replace(b"N}", budget + b"}").replace(b"N ", budget + b" ").replace(b"N,", budget + b",") % rest, reply
+            yield text.replace(b"N", budget) % rest, reply
     yield b"{%s}" % rest, refused
     yield b'{%s,"lock":[]}' % rest, refused
 
 
 def texts_at_the_limits_of_their_lengths():
     """A name, a version and a requirement have at most so many bytes, and a requirement at most so many comparators."""
-    name, version, need = "a".ljust(MOST_NAME_BYTES, "b"), "1.0.0-".ljust(MOST_VERSION_BYTES, "a"), "^1.0.0".ljust(MOST_REQUIREMENT_BYTES)
+    name, version, need = "a".ljust(MOST_NAME_BYTES,
+                                    "b"), "1.0.0-".ljust(MOST_VERSION_BYTES,
+                                                         "a"), "^1.0.0".ljust(MOST_REQUIREMENT_BYTES)
     most = 31 * ">=1," + "<2"
     yield publish(name, "1.5.0").encode(), '{"ok":true,"revision":1}'
     yield publish("a", version).encode(), '{"ok":true,"revision":2}'
     for text in (need, most):
         yield resolve(f"{name} {text}").encode(), '{"revision":2,"selected":[["%s","1.5.0"]]}' % name
-    for line, number, told in ((publish(name + "b", "1.0.0"), 1, "BadName"), (publish("b", version + "a"), 2, "BadVersion"),
-                               (resolve(f"{name} {need} "), 3, "BadRequirement"), (resolve(f"{name} >=1,{most}"), 3, "BadRequirement")):
+    for line, number, told in ((publish(name + "b", "1.0.0"), 1, "BadName"),
+                               (publish("b", version + "a"), 2, "BadVersion"),
+                               (resolve(f"{name} {need} "), 3, "BadRequirement"),
+                               (resolve(f"{name} >=1,{most}"), 3, "BadRequirement")):
         yield line.encode(), '{"error":%d,"name":"%s","revision":2}' % (number, told)
 
 
@@ -200,14 +210,38 @@ def a_chain_of_packages():
     yield from accepted([publish(name, "1.0.0", [f"{after} ^1"]).encode() for name, after in zip(names, names[1:])])
     yield resolve("p0 *").encode(), '{"refused":true,"revision":%d}' % (count - 1)
     yield from accepted([publish(names[-1], "1.0.0").encode()], count - 1)
-    yield resolve("p0 *").encode(), compact({"revision": count, "selected": sorted([name, "1.0.0"] for name in names)}).decode()
+    yield resolve("p0 *").encode(), compact({"revision": count,
+                                             "selected": sorted([name, "1.0.0"] for name in names)}).decode()
+
+
+def a_chain_that_is_searched():
+    """The newest version of each link asks for a version that is not there, so that no preference serves."""
+    count = 2_000
+    links = [(f"n{k}", "1.0.0", [f"n{k + 1} ^1"] if k + 1 < count else []) for k in range(count)]
+    yield from accepted([line.encode() for name, *link in links
+                         for line in (publish(name, *link), publish(name, "1.1.0", ["gone ^1"]))])
+    chosen = sorted([name, "1.0.0"] for name, *_ in links)
+    yield resolve("n0 *").encode(), compact({"revision": 2 * count, "selected": chosen}).decode()
+
+
+def a_megabyte_of_needs():
+    """Of as many needs as a line has room for, one that repeats a name is found, wherever it stands."""
+    needs = [["%x" % (number + 0xa00000), "1"] for number in range(70_000)]
+    needs = needs[:int(len(needs) * (MOST_LINE_BYTES - 100) / len(compact(needs)))]
+    for _ in range(4):
+        for last, number, name in (["p0", "1"], 6, "TooManyDependencies"), (needs[0], 4, "RepeatedDependency"):
+            line = compact({"op": "publish", "name": "p", "version": "1.0.0", "needs": [*needs, last]})
+            assert MOST_LINE_BYTES - 1000 < len(line) <= MOST_LINE_BYTES
+            yield line, f'{{"error":{number},"name":"{name}","revision":0}}'
 
 
 SESSIONS = [
     lines_at_the_limit_of_their_length, values_in_one_another, needs_past_the_most_of_a_publication,
-    needs_past_the_most_of_a_request, each_count_of_needs_up_to_the_most, a_selection_longer_than_the_room_of_replies,
-    a_listing_longer_than_the_room_of_replies, the_most_versions_and_dependencies, the_most_names_of_packages,
-    the_most_commands_of_a_session, budgets_in_other_words, texts_at_the_limits_of_their_lengths, a_chain_of_packages, terms_at_the_edges_of_words,
+    needs_past_the_most_of_a_request, a_selection_longer_than_the_room_of_replies,
+    the_most_versions_and_dependencies, the_most_names_of_packages,
+    the_most_commands_of_a_session, budgets_in_other_words, texts_at_the_limits_of_their_lengths, a_chain_of_packages,
+    a_chain_that_is_searched, a_conflict_that_goes_back_over_many_decisions, a_megabyte_of_needs,
+    what_many_versions_have_in_common_waits_for_no_decision,
 ]
 
 

@@ -4,6 +4,10 @@ Each function under `@tables` is one test. It yields tables, each a title and it
 files under rows/, and a table begins a session of its own. The comment of the function is the source of what is
 wanted.
 """
+import json
+
+from tests.support.program import publish
+
 GENERATORS = []
 
 
@@ -16,6 +20,22 @@ def row(of, call, gives=None, **given):
     return {"of": of, "call": call, **given, "gives": gives}
 
 
+def pairs(texts):
+    """Texts of two words, as `log ^1`, as pairs."""
+    return [text.split(" ", 1) for text in texts]
+
+
+def entered(lines):
+    """Rows that enter commands, given as request lines, each of which is accepted."""
+    commands = map(json.loads, lines)
+    return [row("registry", it.pop("op"), revision, **it) for revision, it in enumerate(commands, 1)]
+
+
+def published(*versions):
+    """Rows that publish versions, each given as a name, a version and what it needs."""
+    return entered(publish(name, version, needs) for name, version, *needs in versions)
+
+
 # for so many requirements of a package the matching sets are kept: those that were named first
 KEPT_SETS = 128
 PATCHES = 70
@@ -25,8 +45,25 @@ PATCHES = 70
 def requirements_beyond_those_whose_sets_are_kept():
     """docs/ARCHITECTURE.md, "A publish line": the first requirements on a package have their sets kept."""
     needs = [f"{sign}0.0.{patch}" for sign in (">=", "<") for patch in range(PATCHES)]
-    published = [("a", "0.0.0", []), *(("b", f"1.{place}.0", [["a", need]]) for place, need in enumerate(needs)), ("a", "0.0.7", [])]
-    rows = [row("registry", "publish", revision, name=name, version=version, needs=on)
-            for revision, (name, version, on) in enumerate(published, 1)]
+    users = [("b", f"1.{place}.0", f"a {need}") for place, need in enumerate(needs)]
+    rows = published(("a", "0.0.0"), *users, ("a", "0.0.7"))
     rows += [row("registry", "is_kept", place < KEPT_SETS, pkg=1, need=need) for place, need in enumerate(needs)]
     yield f"{len(needs)} requirements of a package, each of a version that depends on it", rows
+
+
+@tables
+def many_requests_at_once():
+    """Each request is met by one version alone, and every ninth by none."""
+    versions = [f"1.{minor}.0" for minor in range(16)]
+    requests, answers = [], []
+    for place in range(256):
+        version, is_hopeless = versions[place * 7 % 16], place % 9 == 8
+        needs = [["a", f"={version}"], *([["b", "*"]] if is_hopeless else [])]
+        requests.append({"needs": needs, "lock": [], **({"budget": 0} if is_hopeless else {})})
+        answers.append({"refused": 22} if is_hopeless else {"selected": [["a", version]]})
+    rows = published(*(("a", version) for version in versions))
+    for workers in (1, 2, 7, 64):
+        rows.append(row("pool", "answer_all", answers, workers=workers, requests=requests))
+        rows += [row("pool", "answer_in_order", answers[:count], workers=workers, count=count, requests=requests)
+                 for count in (256, 100)]
+    yield "256 requests have the same answers in the same order, by however many threads", rows

@@ -1,16 +1,13 @@
 """Tables of the store of what was learnt that would be too large to be kept: each public function makes some.
 
-A table is a title and its rows; a row's member `gives` is what the call is wanted to answer. What was learnt is stored by a seat."""
-
-import random
-
+A table is a title and its rows; a row's member `gives` is what the call is wanted to answer. What was learnt is stored
+by a seat."""
 from registry_cli.limits import MOST_STORED
-from tests.support.generated_rows import tables
-from tests.support.plain_store import PlainStore
+from tests.support.generated_rows import pairs, row, tables
 
 
 class Steps:
-    """Steps of one seat, with what each is to give. What is entered takes a place, and a command raises the revision."""
+    """Steps of one seat, with what each is to give. Each entry takes a place, a command raises the revision."""
 
     def __init__(self):
         self.steps, self.gives, self.place, self.revision = [], [], 0, 0
@@ -26,17 +23,17 @@ class Steps:
         self.step(kind, refused or [self.place, self.revision], given)
 
     def publish(self, name, version, *needs):
-        self.enter("publish", {"name": name, "version": version, "needs": [need.split(" ", 1) for need in needs]})
+        self.enter("publish", {"name": name, "version": version, "needs": pairs(needs)})
 
     def learn(self, line, refused=None):
         self.enter("learn", {"lines": [line]}, refused)
 
-    def rows(self, capacity=8192):
-        return [{"of": "chronicle", "call": "steps", "capacity": capacity, "seats": [1, 2], "steps": self.steps, "gives": self.gives}]
+    def rows(self):
+        return [row("chronicle", "steps", self.gives, capacity=8192, seats=[1, 2], steps=self.steps)]
 
 
-def _premise(package, target, within, need="^1.0.0"):
-    return {"package": package, "versions": [0], "target": target, "need": need, "within": within}
+def _premise(package, target, within):
+    return {"package": package, "versions": [0], "target": target, "need": "^1.0.0", "within": within}
 
 
 def _line(*within):
@@ -78,7 +75,7 @@ def a_seat_stores_at_most_4096():
 
 @tables
 def members_go_and_come_one_by_one():
-    """Each member rests on a package of its own, and is found by it, also where the empty places of others have gone."""
+    """Each member rests on a package of its own, and is found by it, also once others have gone."""
     count, steps = 1024, _chain()
     for k in range(count + 1):
         steps.publish(f"p{k}", "1.0.0", f"q{k} ^1.0.0")
@@ -101,70 +98,3 @@ def members_go_and_come_one_by_one():
     for k, within in ((4, (0,)), (7, (0, 1)), (8, None), (9, None), (32, (0,)), (gone[0], (0, 1)), (1020, (0,))):
         steps.step("named", [_own_line(k, *within)["conclusion"]] if within else [], 2 * k + 5)
     yield "Members go one by one, and others come in their place", steps.rows()
-
-
-# ---- random steps, each wanted to answer what a plain store answers
-
-NAMES = ["a", "b", "c", "d"]
-VERSIONS = ["1.0.0", "1.0.1", "1.1.0", "2.0.0", "2.0.0-rc.1", "2.1.0", "0.3.1", "3.0.0-0"]
-REQUIREMENTS = ["*", "^1.0.0", "~1.0.0", "^2.0.0", ">=1.1.0", "<2.0.0", "=1.1.0", "^2.0.0-rc.1", "^3.0.0-0"]
-
-
-def _command(rng, store):
-    """A publication of a version that is not there yet, or a yank or its undoing."""
-    name = rng.choice(NAMES)
-    left = [version for version in VERSIONS if version not in store.versions_of(name)]
-    if left and rng.random() < 0.7:
-        targets = rng.sample([other for other in NAMES if other != name], rng.choice([1, 2, 2]))
-        return {"op": "publish", "name": name, "version": rng.choice(left),
-                "needs": [[target, rng.choice(REQUIREMENTS)] for target in targets]}
-    op = "unyank" if rng.random() < 0.3 else "yank"
-    return {"op": op, "name": name, "version": rng.choice(store.versions_of(name) or VERSIONS)}
-
-
-def _premise_of(rng, store):
-    """A premise that often stands: what some versions of a package need, and what meets it, or somewhat more or less."""
-    package, target = rng.sample(range(1, len(store.names) + 1), 2)
-    asked = store.needs_on(package, target)
-    need = rng.choice(list(asked.values()) or REQUIREMENTS)
-    versions = [ordinal for ordinal, text in asked.items() if text == need] or [0]
-    within = {*store.matching(target, need), *([rng.randrange(10)] if rng.random() < 0.4 else [])}
-    if within and rng.random() < 0.15:
-        within.discard(rng.choice(sorted(within)))
-    return {"package": package, "versions": rng.sample(versions, rng.randint(1, len(versions))), "target": target,
-            "need": need, "within": sorted(within)}
-
-
-def _learnt(rng, store):
-    premise = _premise_of(rng, store)
-    premise["versions"].sort()
-    terms = [[premise["package"], {"in": premise["versions"]}], [premise["target"], {"not": premise["within"]}]]
-    if not premise["within"]:
-        terms.pop()
-    # what a premise says follows from it and from itself
-    return {"conclusion": sorted(terms), "causes": [premise, premise], "pivot": premise["package"]}
-
-
-def _random_steps(rng, count):
-    store, steps = PlainStore(), Steps()
-    for _ in range(count):
-        if len(store.names) < 2 or rng.random() < 0.3:
-            command = _command(rng, store)
-            told = store.enter(command)
-            steps.enter(command.pop("op"), command, told if isinstance(told, dict) else None)
-        else:
-            line = _learnt(rng, store)
-            told = store.learn(line)
-            steps.learn(line, refused=told if isinstance(told, dict) else None)
-        if rng.random() < 0.2:
-            package = rng.randint(1, 5)
-            steps.step("stored", store.members())
-            steps.step("named", store.named(package), package)
-    steps.step("stored", store.members())
-    return steps
-
-
-@tables
-def random_steps_of_a_store():
-    for seed in range(40):
-        yield f"Random steps {seed}", _random_steps(random.Random(seed), 150).rows()

@@ -9,7 +9,8 @@ from tests.support.library import serving
 
 class Told:
     """What a session in process says of a file that it can't save."""
-    FORM = re.compile(rb"registryd: (output failed|journal [^:\n]*: (can't be \w+: [^:\n]* \(os error \d+\)|in use by another session))\n")
+    FORM = re.compile(rb"registryd: (output failed|journal [^:\n]*: (can't be \w+: [^:\n]* \(os error \d+\)|"
+                      rb"in use by another session))\n")
 
     def __eq__(self, said):
         return self.FORM.fullmatch(said) is not None

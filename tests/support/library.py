@@ -15,8 +15,8 @@ STRICT = ["-std=c11", "-Wall", "-Wextra", "-Wpedantic", "-Werror", "-O1", "-I", 
 
 
 def folder_for_tests():
-    """The folder of the library: that of the file which the environment names (`REGISTRYD_LIBRARY`), else where it is built; or why it
-    can't be."""
+    """The folder of the library: that of the file which the environment names (`REGISTRYD_LIBRARY`), else where it is
+    built; or why it can't be."""
     named = os.environ.get("REGISTRYD_LIBRARY")
     try:
         return Path(named).resolve().parent if named else c_library.built().folder, ""
@@ -56,12 +56,14 @@ def sources_compiled(more):
 
 def linked_with_sources(to, source, *more):
     """Compiles a caller together with the library's sources, all with the same words of the compiler."""
-    compiled([*STRICT, *more, source, *sources_compiled(more), c_library.archive()[0], c_library.heap(), "-lpthread", "-o", to])
+    compiled([*STRICT, *more, source, *sources_compiled(more), c_library.archive()[0], c_library.heap(),
+              "-lpthread", "-o", to])
     return str(to)
 
 
 def serving(case):
-    """A program that serves lines as the program under test does, over a session in process; it lasts as long as a class of tests."""
+    """A program that serves lines as the program under test does, over a session in process; it lasts as long as a
+    class of tests."""
     if not FOLDER:
         raise unittest.SkipTest(LACKING)
     folder = tempfile.TemporaryDirectory()

@@ -1,29 +1,30 @@
-"""Request lines for sessions that nobody would write by hand: most of them good, many damaged in their bytes, their tokens
-or their members. Nothing here says what a line is answered."""
+"""Request lines for sessions that nobody would write by hand: most of them good, many damaged in their bytes, their
+tokens or their members. Nothing here says what a line is answered."""
 import json
 import re
 from json.encoder import encode_basestring, encode_basestring_ascii
 
 from registry_cli.limits import (
-    MOST_DERIVATION_LINES,
-    MOST_NAME_BYTES,
-    MOST_NEEDS,
-    MOST_REQUIREMENT_BYTES,
-    MOST_VERSION_BYTES,
-    MOST_VERSIONS,
-)
+    MOST_DERIVATION_LINES, MOST_NAME_BYTES, MOST_NEEDS, MOST_REQUIREMENT_BYTES, MOST_VERSION_BYTES, MOST_VERSIONS)
 
 NAMES = ["a", "b", "c", "d", "e-1"]
 VERSIONS = ["1.0.0", "1.1.0", "1.2.3", "2.0.0", "2.0.0-rc.1", "0.3.1", "0.0.7", "1.0.0-alpha.1", "2.1.0+build.5"]
-REQUIREMENTS = ["*", "^1", "^1.0.0", "^2.0.0", "=1.1.0", ">=1.1.0", "<2.0.0", ">=1.0.0, <2.0.0", "~1.0", "1.2.*", "^0.3", ">2", "x",
+REQUIREMENTS = ["*", "^1", "^1.0.0", "^2.0.0", "=1.1.0", ">=1.1.0", "<2.0.0", ">=1.0.0, <2.0.0", "~1.0", "1.2.*",
+                "^0.3", ">2", "x",
                 "^2.0.0-rc.1", "1", "~1.2.3", "=2", "<=1.2, >0.3", ">=0.0.7"]
-TEXTS = ["", "A", "9a", "a.b", "a" * MOST_NAME_BYTES, "a" * (MOST_NAME_BYTES + 1), "zed", "é", "a\u0000", "\ufeffa", "1.0", "01.0.0", "1.0.0-", "1.0.0-01", "1.0.0+", "1.0.0+01",
-         "18446744073709551615.0.0", "18446744073709551616.0.0", "1.0.0-" + "9" * 40, "1.0.0+".ljust(MOST_VERSION_BYTES, "b"), "1.0.0+".ljust(MOST_VERSION_BYTES + 1, "b"),
-         "1.0.0-alpha..1", " 1.0.0", "1.0.0 ", "v1.0.0", "", "^", ">=", "1,", ",1", "1 2", "1.0.0.0", "*, 1", "1.*.*", "1.*.2", "^*", "> 1",
-         "=1.x", ", ".join(["^1"] * 32), ", ".join(["^1"] * 33), "^1".ljust(MOST_REQUIREMENT_BYTES), "^1".ljust(MOST_REQUIREMENT_BYTES + 1), "\u0661.0.0", "^\u0661", "1.0.0-\u0661",
+TEXTS = ["", "A", "9a", "a.b", "a" * MOST_NAME_BYTES, "a" * (MOST_NAME_BYTES + 1), "zed", "é", "a\u0000", "\ufeffa",
+         "1.0", "01.0.0", "1.0.0-", "1.0.0-01", "1.0.0+", "1.0.0+01",
+         "18446744073709551615.0.0", "18446744073709551616.0.0", "1.0.0-" + "9" * 40,
+         "1.0.0+".ljust(MOST_VERSION_BYTES, "b"), "1.0.0+".ljust(MOST_VERSION_BYTES + 1, "b"),
+         "1.0.0-alpha..1", " 1.0.0", "1.0.0 ", "v1.0.0", "", "^", ">=", "1,", ",1", "1 2", "1.0.0.0", "*, 1", "1.*.*",
+         "1.*.2", "^*", "> 1",
+         "=1.x", ", ".join(["^1"] * 32), ", ".join(["^1"] * 33), "^1".ljust(MOST_REQUIREMENT_BYTES),
+         "^1".ljust(MOST_REQUIREMENT_BYTES + 1), "\u0661.0.0", "^\u0661", "1.0.0-\u0661",
          "publish", "learn", "list", "check", "null", "\U0001f600", "x" * 3000]
-NUMBERS = ["0", "1", "2", "16", "-1", "-0", "0.0", "1.0", "1e0", "1E0", "4294967295", "4294967296", "18446744073709551615", "18446744073709551616",
-           "1e308", "1e309", "-1e400", "1e-400", "00", "01", "+1", ".5", "1.", "0x10", "NaN", "Infinity", "-Infinity", "9" * 400, "1" + "0" * 30]
+NUMBERS = ["0", "1", "2", "16", "-1", "-0", "0.0", "1.0", "1e0", "1E0", "4294967295", "4294967296",
+           "18446744073709551615", "18446744073709551616",
+           "1e308", "1e309", "-1e400", "1e-400", "00", "01", "+1", ".5", "1.", "0x10", "NaN", "Infinity", "-Infinity",
+           "9" * 400, "1" + "0" * 30]
 TOKEN = re.compile(r'"(?:[^"\\]|\\.)*"|[\[\]{},:]|[^\s\[\]{},:"]+|\s+')
 
 
@@ -47,7 +48,9 @@ class Maker:
     def pairs(self, names, texts, most):
         if self.rng.random() < 0.004:
             # about as many as there may be
-            return [[f"n{number}", self.rng.choice(texts)] for number in range(self.rng.choice([MOST_NEEDS - 1, MOST_NEEDS, MOST_NEEDS + 1, MOST_NEEDS + 2, 2 * MOST_NEEDS + 2]))]
+            return [[f"n{number}", self.rng.choice(texts)]
+                    for number in range(self.rng.choice([MOST_NEEDS - 1, MOST_NEEDS, MOST_NEEDS + 1, MOST_NEEDS + 2,
+                                                         2 * MOST_NEEDS + 2]))]
         named = self.rng.sample(names, min(self.rng.choice([0, 1, 1, 2, 3]), len(names), most))
         if named and self.rng.random() < 0.02:
             named.append(self.rng.choice(named))
@@ -57,7 +60,8 @@ class Maker:
         op, name = self.rng.choice(["publish"] * 5 + ["yank", "yank", "unyank"]), self.rng.choice(NAMES)
         made = {"op": op, "name": self.one([name]), "version": self.one(VERSIONS)}
         if op == "publish":
-            made["needs"] = self.pairs([it for it in [*NAMES, "zed"] if it != name or self.rng.random() < 0.05], REQUIREMENTS, 3)
+            made["needs"] = self.pairs([it for it in [*NAMES, "zed"] if it != name or self.rng.random() < 0.05],
+                                       REQUIREMENTS, 3)
         return made
 
     def request(self, op="resolve"):
@@ -79,19 +83,23 @@ class Maker:
 
     def cause(self):
         return self.rng.choice([
-            {"line": self.rng.choice([0, 1, 1, 2, 3])}, {"fact": "root"}, {"fact": "need", "index": self.rng.choice([0, 0, 1, 2])},
+            {"line": self.rng.choice([0, 1, 1, 2, 3])}, {"fact": "root"},
+            {"fact": "need", "index": self.rng.choice([0, 0, 1, 2])},
             {"fact": "disallowed", "name": self.rng.choice(NAMES), "versions": self.ordinals()},
-            {"fact": "premise", "name": self.rng.choice(NAMES), "need": self.rng.choice(REQUIREMENTS), "target": self.rng.choice(NAMES),
+            {"fact": "premise", "name": self.rng.choice(NAMES), "need": self.rng.choice(REQUIREMENTS),
+             "target": self.rng.choice(NAMES),
              "versions": self.ordinals(), "within": self.ordinals()}])
 
     def derivation(self):
         """Lines of the form of a derivation, few of which follow."""
         term = lambda: [self.rng.choice(["", *NAMES]), self.rng.random() < 0.5, self.ordinals()]
-        return [{"causes": [self.cause(), self.cause()], "conclusion": [term() for _ in range(self.rng.choice([0, 1, 2]))],
+        return [{"causes": [self.cause(), self.cause()],
+                 "conclusion": [term() for _ in range(self.rng.choice([0, 1, 2]))],
                  "pivot": self.rng.choice(["", *NAMES])} for _ in range(self.rng.choice([0, 1, 1, 2, 3]))]
 
     def repeated(self, rows):
-        """A derivation with its first lines many times over: each follows as the first of its kind does, where that cites no line."""
+        """A derivation with its first lines many times over: each follows as the first of its kind does, where that
+        cites no line."""
         most = MOST_DERIVATION_LINES
         count = self.rng.choice([1, 2, 10, most // 2 - 1, most - 2, most - 1, most])
         first = rows[:self.rng.randrange(1, 3)]
@@ -150,7 +158,8 @@ class Maker:
 
     def near_set(self, ordinals):
         if self.rng.random() < 0.05:
-            return list(range(0, self.rng.choice([64, 65, MOST_VERSIONS, MOST_VERSIONS + 904]), self.rng.choice([1, 63, 64])))
+            return list(range(0, self.rng.choice([64, 65, MOST_VERSIONS, MOST_VERSIONS + 904]),
+                              self.rng.choice([1, 63, 64])))
         return sorted(set(ordinals) ^ {self.rng.choice([0, 1, 2, 3, 4, 5, 17, 4294967295])})
 
     def check(self):
@@ -190,7 +199,8 @@ class Maker:
             return text
         if self.rng.random() < 0.8:
             return (encode_basestring_ascii if self.rng.random() < 0.5 else encode_basestring)(text)
-        return '"' + "".join("\\u%04x" % ord(it) if ord(it) < 65536 and self.rng.random() < 0.3 else json.dumps(it)[1:-1] for it in text) + '"'
+        return '"' + "".join("\\u%04x" % ord(it) if ord(it) < 65536
+                             and self.rng.random() < 0.3 else json.dumps(it)[1:-1] for it in text) + '"'
 
     def written(self, value):
         """A value as JSON, with white space, its members in any order."""
@@ -210,7 +220,8 @@ class Maker:
 
     def other(self, value):
         """A value that is another one somewhere inside."""
-        inside = list(value.items()) if isinstance(value, dict) else list(enumerate(value)) if isinstance(value, list) else []
+        inside = list(value.items()) if isinstance(value,
+                                                   dict) else list(enumerate(value)) if isinstance(value, list) else []
         if not inside or self.rng.random() < 0.15:
             return self.replaced(value)
         key, held = self.rng.choice(inside)
@@ -219,9 +230,12 @@ class Maker:
             if kind < 0.1:
                 return {name: it for name, it in value.items() if name != key}
             if kind < 0.2:
-                return {**value, self.rng.choice(["lock", "explain", "budget", "name", "", "Op", "op ", "x"]): self.replaced(held)}
+                return {**value,
+                        self.rng.choice(["lock", "explain", "budget", "name", "", "Op", "op ",
+                                         "x"]): self.replaced(held)}
             if kind < 0.35:
-                return Twice([*value.items(), (key, self.replaced(held))] if kind < 0.28 else [(key, self.replaced(held)), *value.items()])
+                return Twice([*value.items(), (key, self.replaced(held))] if kind < 0.28
+                             else [(key, self.replaced(held)), *value.items()])
             return {**value, key: self.other(held)}
         if kind < 0.15:
             return [it for place, it in enumerate(value) if place != key]
@@ -243,8 +257,10 @@ class Maker:
             depth = self.rng.choice([1, 2, 120, 126, 127, 128, 129, 400])
             return Raw("[" * depth + "]" * depth if kind < 0.55 else '{"a":' * depth + "0" + "}" * depth)
         if kind < 0.65:
-            return Raw(self.rng.choice(['"\\ud800"', '"\\udc00\\ud800"', '"\\ud83d\\ude00"', '"\\u0"', '"\\x41"', '"\t"', "'a'", '"\\/"', '"\\u0061"']))
-        return self.rng.choice([None, True, False, [], {}, [value], {"": value}, [value, value], [["a", "*"]], "", 0, 1])
+            return Raw(self.rng.choice(['"\\ud800"', '"\\udc00\\ud800"', '"\\ud83d\\ude00"', '"\\u0"', '"\\x41"',
+                                        '"\t"', "'a'", '"\\/"', '"\\u0061"']))
+        return self.rng.choice([None, True, False, [], {}, [value], {"": value}, [value, value],
+                                [["a", "*"]], "", 0, 1])
 
     def other_tokens(self, text):
         """A text with a token left out, doubled, or another in its place."""
@@ -256,7 +272,9 @@ class Maker:
             elif kind < 0.6:
                 tokens[place:place] = tokens[place:place + 1]
             else:
-                tokens[place:place + 1] = [self.rng.choice([*tokens, *NUMBERS, "null", "true", "//", "'", ";", "\\", "[", "}", ","])]
+                tokens[place:place
+                       + 1] = [self.rng.choice([*tokens, *NUMBERS, "null", "true", "//", "'", ";", "\\",
+                                                "[", "}", ","])]
         return "".join(tokens)
 
     def other_bytes(self, line):
@@ -268,7 +286,8 @@ class Maker:
             elif kind < 0.4:
                 line = line[:place] + line[place + 1:]
             elif kind < 0.6:
-                line = line[:place] + self.rng.choice([b"\xff", b"\xc0\x80", b"\xed\xa0\x80", b"\xf4\x90\x80\x80", b"\xe2\x82", b"\0", b"\xef\xbb\xbf",
+                line = line[:place] + self.rng.choice([b"\xff", b"\xc0\x80", b"\xed\xa0\x80", b"\xf4\x90\x80\x80",
+                                                       b"\xe2\x82", b"\0", b"\xef\xbb\xbf",
                                                        b"\x7f", b"\xc3\xa9"]) + line[place:]
             else:
                 line = line[:place] + bytes([self.rng.randrange(256)]) + line[place + (kind < 0.8):]

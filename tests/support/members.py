@@ -27,7 +27,8 @@ def may_divide():
     """Whether this machine lets us make namespaces of the network."""
     name = f"reg-try-{os.getpid()}"
     done = subprocess.run(["ip", "netns", "add", name], capture_output=True) if shutil.which("ip") else None
-    return bool(done) and done.returncode == 0 and subprocess.run(["ip", "netns", "del", name], capture_output=True).returncode == 0
+    return bool(done) and done.returncode == 0 and subprocess.run(["ip", "netns", "del", name],
+                                                                  capture_output=True).returncode == 0
 
 
 def ip(*words):
@@ -51,7 +52,8 @@ class Members:
         # in memory where that may be: what is tested loses processes, not the machine, and others may use the disk
         self.folder = tempfile.mkdtemp(prefix="etcd-members-", dir=folder if os.path.isdir(folder) else None)
         self.divided, self.children = divided, [None] * count
-        self.beginning, self.are_ended = threading.Lock(), False  # none begins again once they are ended, whoever still disturbs them
+        # none begins again once they are ended, whoever still disturbs them
+        self.beginning, self.are_ended = threading.Lock(), False
         self.hosts = ["127.0.0.1"] * count
         if divided:
             self.divide()
@@ -89,7 +91,8 @@ class Members:
         within = ["ip", "netns", "exec", self.namespace(number)] if self.divided else []
         with self.beginning:
             if not self.are_ended:
-                self.children[number] = tied.Tied([*within, *words], stdout=subprocess.DEVNULL, stderr=subprocess.DEVNULL)
+                self.children[number] = tied.Tied([*within, *words], stdout=subprocess.DEVNULL,
+                                                  stderr=subprocess.DEVNULL)
 
     def wait(self):
         """Returns when each member answers."""
@@ -115,7 +118,8 @@ class Members:
 
     def troubles(self):
         """What can be done to a member, and how it is called."""
-        dividing = [(self.cut_off, "member cut off"), (self.part, "member parted from the others")] if self.divided else []
+        dividing = [(self.cut_off, "member cut off"),
+                    (self.part, "member parted from the others")] if self.divided else []
         return [(self.kill, "member killed"), (self.pause, "member held up"), *dividing]
 
     def kill(self, number, seconds):

@@ -1,5 +1,6 @@
-"""What follows where requests are answered by their newest selections, each as a judge of whatever answers lines: of the program,
-and of what is wrong on purpose. A judge answers what it found, as texts; nothing where all is as it should be.
+"""What follows where requests are answered by their newest selections, each as a judge of whatever answers lines: of
+the program, and of what is wrong on purpose. A judge answers what it found, as texts; nothing where all is as it should
+be.
 
 What answers is called with lines, as values, and a number of workers, and answers reply lines."""
 import json
@@ -7,7 +8,8 @@ import random
 
 from tests.support.small_registries import Maker
 
-NO_REQUEST = {"op": "end of a batch"}  # answered by itself, so that what stands before it is answered, and learnt of, before what follows
+# Answered by itself, so that what stands before it is answered, and learnt of, before what follows.
+NO_REQUEST = {"op": "end of a batch"}
 WORKERS = (1, 1, 2, 3, 4, 8)
 
 
@@ -21,8 +23,8 @@ def selected(reply):
 
 
 def orders(commands, requests, serve, ways=100, seed=0):
-    """The same requests in so many ways: in other orders, cut into batches elsewhere, by other numbers of workers, each alone or some of them,
-    behind requests that are none of them. Each has the same reply, byte for byte."""
+    """The same requests in so many ways: in other orders, cut into batches elsewhere, by other numbers of workers, each
+    alone or some of them, behind requests that are none of them. Each has the same reply, byte for byte."""
     rng, first, found = random.Random(seed), {}, []
     for way in range(ways):
         asked = list(range(len(requests)))
@@ -55,13 +57,15 @@ def yanks(seeds, serve):
         (*_, before) = serve([*commands, request], 1)
         if selected(before) is None:
             continue
-        allowed = {(it["name"], it["version"]) for it in commands if it["op"] == "publish"} - {(it["name"], it["version"]) for it in commands if it["op"] == "yank"}
-        others = sorted(allowed - {tuple(it) for it in selected(before)})
+        published, yanked = ({(it["name"], it["version"]) for it in commands if it["op"] == op}
+                             for op in ("publish", "yank"))
+        others = sorted(published - yanked - {tuple(it) for it in selected(before)})
         for name, version in random.Random(seed).sample(others, min(2, len(others))):
             yank = {"op": "yank", "name": name, "version": version}
             replies = serve([*commands, request, yank, request, {**yank, "op": "unyank"}, request], 1)
             told = bodies([replies[len(commands)], *replies[len(commands) + 2::2]])
-            found += [f"seed {seed}: {it} is answered where {name} {version} is yanked, and {told[0]} was before" for it in told if it != told[0]]
+            found += [f"seed {seed}: {it} is answered where {name} {version} is yanked, and {told[0]} was before"
+                      for it in told if it != told[0]]
     return found
 
 
@@ -75,5 +79,6 @@ def publications(seeds, serve):
         replies = serve([*before, request, last, request], 1)
         earlier, later = replies[len(before)], replies[-1]
         if bodies([earlier]) != bodies([later]) and [last["name"], last["version"]] not in (selected(later) or []):
-            found.append(f"seed {seed}: {later} is answered where {last['name']} {last['version']} came, and {earlier} was before")
+            found.append(f"seed {seed}: {later} is answered where {last['name']} {last['version']} came, and {earlier} "
+                         "was before")
     return found

@@ -61,7 +61,8 @@ class Case(unittest.TestCase):
 
     def front(self, seat=1, *more, hook=None, gate=None, writer=None):
         gate = gate or (self.opened(hook) if hook else self.gate)
-        front = fronts.Front([gate.url], seat, "--timeout", "60", *more, writer=writer)  # nothing is lost but what a test loses
+        # nothing is lost but what a test loses
+        front = fronts.Front([gate.url], seat, "--timeout", "60", *more, writer=writer)
         front.begin()
         self.addCleanup(self.ended, front)
         return front
@@ -75,7 +76,8 @@ class Case(unittest.TestCase):
 
     def cells(self):
         """The entries that stand, by their keys."""
-        return {key.decode(): json.loads(value) for key, (_, _, _, value) in sorted(self.etcd.kept.items()) if b"/cells/" in key}
+        return {key.decode(): json.loads(value) for key,
+                (_, _, _, value) in sorted(self.etcd.kept.items()) if b"/cells/" in key}
 
     def once(self, moment, do):
         """A hook that does this to the first transaction of a front that puts into cells, at this moment."""

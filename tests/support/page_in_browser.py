@@ -7,7 +7,8 @@ from tests.support.program import publish
 
 # three hundred packages, of which each needs two further ones, and of the last ones half the very last
 MANY = 300
-BELOW = {number: [it for it in (2 * number + 1, 2 * number + 2) if it < MANY] or ([299] if number < 200 else []) for number in range(MANY)}
+BELOW = {number: [it for it in (2 * number + 1, 2 * number + 2) if it < MANY]
+         or ([299] if number < 200 else []) for number in range(MANY)}
 SELECTION = [publish(f"p{number:03}", "1.0.0", [f"p{it:03} ^1" for it in below]) for number, below in BELOW.items()]
 
 
@@ -43,11 +44,13 @@ class InBrowser(Served):
 
     def texts(self, selector):
         """The texts of the elements, as they are seen."""
-        return self.browser.value(f"[...document.querySelectorAll({json.dumps(selector)})].filter((it) => it.checkVisibility()).map((it) => "
+        return self.browser.value(f"[...document.querySelectorAll({json.dumps(selector)})].filter((it) "
+                                  f"=> it.checkVisibility()).map((it) => "
                                   f"it.textContent.replace(/\\s+/g, ' ').trim())")
 
     def names(self, selector):
-        return set(self.browser.value(f"[...document.querySelectorAll({json.dumps(selector)})].map((it) => it.dataset.name)"))
+        return set(self.browser.value(f"[...document.querySelectorAll({json.dumps(selector)})].map((it) => "
+                                      f"it.dataset.name)"))
 
     def said_nothing(self):
         """The script had no fault, and nothing was asked of anyone else."""

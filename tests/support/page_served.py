@@ -13,9 +13,9 @@ from tests.support.program import PROGRAM, publish, yank
 from tests.support.registry_folder import Folder
 
 # by hand: a pre-release, a yanked version, one package that is needed and not published
-WORKED = [publish("log", "1.0.0"), publish("log", "1.2.0"), publish("log", "1.10.0"), publish("log", "2.0.0-rc.1"), yank("log", "1.10.0"),
-          publish("zlib", "1.0.0"), publish("app", "1.0.0", ["log ^1", "zlib *"]), publish("app", "1.1.0", ["log >=1.2.0, <2.0.0", "zlib *"]),
-          publish("web", "0.1.0", ["apps ^1"])]
+WORKED = [publish("log", "1.0.0"), publish("log", "1.2.0"), publish("log", "1.10.0"), publish("log", "2.0.0-rc.1"),
+          yank("log", "1.10.0"), publish("zlib", "1.0.0"), publish("app", "1.0.0", ["log ^1", "zlib *"]),
+          publish("app", "1.1.0", ["log >=1.2.0, <2.0.0", "zlib *"]), publish("web", "0.1.0", ["apps ^1"])]
 
 
 class Served(Folder):

@@ -1,6 +1,6 @@
 """What a crash of the machine may leave of the files that a program wrote, told by the calls that it made there, which
-`tests/support/c/watch_calls.c` notes. Of what was done at a file since it was last synced, a beginning stands; its name lasts once the
-folder was synced behind it."""
+`tests/support/c/watch_calls.c` notes. Of what was done at a file since it was last synced, a beginning stands; its name
+lasts once the folder was synced behind it."""
 import os
 from dataclasses import dataclass, field
 
@@ -25,7 +25,7 @@ def calls_in(log):
 
 @dataclass
 class File:
-    """What a file had when it was synced, and what was done there since: bytes at a place, or a length that it was cut to."""
+    """What a file had when it was synced, and what was done there since: bytes at a place, or a length."""
     synced: bytes = b""
     changes: list = field(default_factory=list)
 
@@ -128,5 +128,6 @@ class Disk:
     def may_be_left(self, name):
         """Each text that a crash may leave under a name; none where the file may be gone."""
         path = self.path(name)
-        for file in [self.lasting.get(path), *([self.names.get(path)] if self.names.get(path) is not self.lasting.get(path) else [])]:
+        for file in [self.lasting.get(path),
+                     *([self.names.get(path)] if self.names.get(path) is not self.lasting.get(path) else [])]:
             yield from [None] if file is None else file.may_be_left()

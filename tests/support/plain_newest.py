@@ -1,5 +1,5 @@
-"""The newest selection of a request, by its definition, over all selections that meet the request. It shares nothing with the
-program; what versions and requirements mean is read by `plain_search`."""
+"""The newest selection of a request, by its definition, over all selections that meet the request. It shares nothing
+with the program; what versions and requirements mean is read by `plain_search`."""
 from functools import cache
 
 from tests.support import plain_search
@@ -10,7 +10,7 @@ class Published(plain_search.Published):
     """What was published, and what is the newest selection of a request there."""
 
     def in_preference(self, name, lock):
-        """The versions of a package that may be had, the most preferred first: what the lock names, then by precedence."""
+        """The versions of a package that may be had, the most preferred first: the lock's, then by precedence."""
         locked = [key(version) for package, version in lock if package == name]
         rows = sorted(self.allowed(name, lock), key=lambda row: key(row[0]), reverse=True)
         return sorted((text for text, _ in rows), key=lambda text: key(text) not in locked)
@@ -19,19 +19,21 @@ class Published(plain_search.Published):
         return next(needs for text, needs, _ in self.versions[name] if text == version)
 
     def next_package(self, needs, taken, needs_of=None):
-        """The first package that is asked for behind those that were taken, in their order: by the needs in the order of their
-        names, then by what each of them depends on, as it was published. None where each has its version."""
+        """The first package that is asked for behind those that were taken, in their order: by the needs in the order
+        of their names, then by what each of them depends on, as it was published. None where each has its version."""
         lines = sorted(needs)
         for name, version in taken.items():
             lines += (needs_of or self.needs_of)(name, version)
         return next((name for name, _ in lines if name not in taken), None)
 
     def newest(self, needs, lock):
-        """Package by package, the most preferred version that a selection has which meets the request and has what was taken."""
+        """Package by package, the most preferred version of a selection that meets the request and has what was
+        taken."""
         left = [dict(selection) for selection in self.selections(needs, lock)]
         taken = {}
         while left and (name := self.next_package(needs, taken)):
-            version = next(it for it in self.in_preference(name, lock) if any(selection[name] == it for selection in left))
+            version = next(it for it in self.in_preference(name, lock)
+                           if any(selection[name] == it for selection in left))
             taken[name] = version
             left = [selection for selection in left if selection[name] == version]
         return sorted([name, version] for name, version in taken.items()) if left else None

@@ -1,11 +1,12 @@
-"""What a race of files may print: each reply is judged at its place of the journal that the race printed, by the plain session and
-the plain journal that stand beside. It shares nothing with the program."""
+"""What a race of files may print: each reply is judged at its place of the journal that the race printed, by the plain
+session and the plain journal that stand beside. It shares nothing with the program."""
 import json
 from collections import defaultdict
 from functools import lru_cache
 
 from tests.support.plain_journal import Replay
 from tests.support.plain_session import PlainSession, Requirements, read_json
+from tests.support.program import journal_line
 
 FIRST = "registry-journal 2"
 
@@ -13,7 +14,8 @@ FIRST = "registry-journal 2"
 @lru_cache(maxsize=10_000)
 def stamped(reply, place, seat):
     """A reply as a seat of a race gives it, at this place."""
-    return json.dumps({**json.loads(reply), "place": place, "seat": seat}, sort_keys=True, separators=(",", ":"), ensure_ascii=False)
+    return json.dumps({**json.loads(reply), "place": place, "seat": seat}, sort_keys=True, separators=(",", ":"),
+                      ensure_ascii=False)
 
 
 @lru_cache(maxsize=10_000)
@@ -39,7 +41,8 @@ class Told:
     def __init__(self, seat, line, reply):
         self.seat, self.line = seat, line
         members = read_json(reply.encode())
-        demand(isinstance(members, dict) and type(members.get("place")) is int and members.get("seat") == seat, f"seat {seat} is told {reply}")
+        demand(isinstance(members, dict) and type(members.get("place")) is int and members.get("seat") == seat,
+               f"seat {seat} is told {reply}")
         self.place, self.is_own = members["place"], '"ok"' in reply
         self.reply = unstamped(reply, self.place, seat)
 
@@ -48,58 +51,52 @@ class Told:
         return self.line[:most].decode(errors="replace")
 
 
-def judge(files, printed):
-    """Judges what a race of these files, each a list of lines in bytes, printed; answers how many entries the journal has."""
+def told_in(files, lines):
+    """The lines of these files with their replies, which stand in a row."""
+    demand(len(lines) >= sum(map(len, files)), "a line has no reply")
+    replies = iter(lines)
+    return [Told(seat, line, next(replies)) for seat, asked in enumerate(files, 1) for line in asked]
+
+
+def judge(files, printed, plain=None):
+    """Judges what a race of these files, each a list of lines in bytes, printed; answers how many entries there are."""
     lines = printed.split("\n")
     demand(lines.pop() == "", "the last line is not ended")
-    told = []
-    for seat, asked in enumerate(files, 1):
-        demand(len(lines) >= len(asked), "a line has no reply")
-        told.append([Told(seat, line, reply) for line, reply in zip(asked, lines)])
-        lines = lines[len(asked):]
-    demand(lines[:1] == [FIRST] and lines[-1] == f"end {len(lines) - 2}", f"a journal is printed as {lines[:1]} .. {lines[-1:]}")
-    for seat in told:
-        never_goes_back(seat)
-    replay([it for seat in told for it in seat], lines[1:-1])
+    told = told_in(files, lines)
+    lines = lines[len(told):]
+    demand(lines[:1] == [FIRST] and lines[-1] == f"end {len(lines) - 2}",
+           f"a journal is printed as {lines[:1]} .. {lines[-1:]}")
+    stand(lines[1:-1], told, judge_replies(told, plain))
     return len(lines) - 2
 
 
-def never_goes_back(told):
-    """A seat loses nothing that it has seen, and what it enters comes after that."""
-    seen = 0
+def judge_replies(told, plain=None):
+    """Judges each reply after the commands that were accepted before its place; answers these, by place."""
+    plain, seen, own = plain or PlainSession(), defaultdict(int), {}
     for it in told:
-        demand(seen + it.is_own <= it.place, f"seat {it.seat} was at place {seen}, and then answers {it.asked(500)} at place {it.place}")
-        seen = it.place
-
-
-def replay(told, entries):
-    """Judges each reply after the entries before its place; a command that is accepted stands at its own."""
-    plain, journal, own, others = PlainSession(), Replay(), {}, defaultdict(list)
-    for it in told:
+        # a seat loses nothing that it has seen, and what it enters comes after that
+        demand(seen[it.seat] + it.is_own <= it.place,
+               f"seat {it.seat} was at place {seen[it.seat]}, and then answers {it.asked(500)} at place {it.place}")
+        seen[it.seat] = it.place
+    for it in sorted(told, key=lambda it: (it.place, not it.is_own)):
         if it.is_own:
             demand(it.place not in own, f"two commands are accepted at place {it.place}")
             own[it.place] = it
-        else:
-            others[it.place].append(it)
-    demand(max([0, *own, *others]) <= len(entries), "a reply is of a place behind the journal's end")
-    for place, entry in enumerate(["", *entries]):
-        if place:
-            demand(journal.accepts(entry.encode(), Requirements()), f"entry {place} is at fault: {entry[:500]}")
-            enter(plain, entry, own.get(place), place)
-        for it in others[place]:
-            check(plain, it)
+        fault = plain.fault(it.line, it.reply)
+        demand(not fault,
+               f"seat {it.seat} at place {it.place}: {it.asked(2000)}\n answered {it.reply[:2000]}\n {fault}")
+    return own
 
 
-def enter(plain, entry, told, place):
-    """An entry of the journal is the command that is told as accepted there, or what was learnt."""
-    if entry.startswith('{"derivation"'):
-        demand(told is None, f"at place {place} a command is told as accepted, and what was learnt stands there")
-        return
-    demand(told is not None, f"no seat was told that its command stands at place {place}")
-    check(plain, told)
-    demand(json.dumps(json.loads(told.line), sort_keys=True, separators=(",", ":")) == entry, f"at place {place} stands {entry[:500]}, told {told.asked(500)}")
-
-
-def check(plain, told):
-    fault = plain.fault(told.line, told.reply)
-    demand(not fault, f"seat {told.seat} at place {told.place}: {told.asked(2000)}\n answered {told.reply[:2000]}\n {fault}")
+def stand(entries, told, own):
+    """Each entry of the journal is the command that is told as accepted there, or what was learnt."""
+    journal = Replay()
+    demand(all(it.place <= len(entries) for it in told), "a reply is of a place behind the journal's end")
+    for place, entry in enumerate(entries, 1):
+        demand(journal.accepts(entry.encode(), Requirements()), f"entry {place} is at fault: {entry[:500]}")
+        is_learnt, found = entry.startswith('{"derivation"'), own.get(place)
+        demand(not (is_learnt and found),
+               f"at place {place} a command is told as accepted, and what was learnt stands there")
+        demand(is_learnt or found, f"no seat was told that its command stands at place {place}")
+        demand(is_learnt or journal_line(found.line.decode()) == entry,
+               f"at place {place} stands {entry[:500]}, told {found and found.asked(500)}")

@@ -102,7 +102,7 @@ class Published:
         return found
 
     def selections(self, needs, lock, names=None):
-        """Each selection that meets the request, as a sorted list of pairs of name and version, of all packages or of these."""
+        """Each selection that meets the request, as a sorted list of names and versions, of all packages or these."""
         names = sorted(self.versions if names is None else names)
         found = []
         for choice in product(*([None, *self.allowed(name, lock)] for name in names)):

@@ -1,5 +1,5 @@
-"""What each line of a session may be answered, whatever the line is: the rules once more, put together of the plain readers
-that stand beside. It shares nothing with the program."""
+"""What each line of a session may be answered, whatever the line is: the rules once more, put together of the plain
+readers that stand beside. It shares nothing with the program."""
 import json
 import math
 import re
@@ -16,7 +16,8 @@ MOST_TRIES = 500
 BRACKETS = re.compile(r"[\[\]{}]")
 STRING = re.compile(r'"(?:[^"\\]|\\.)*"')
 FORMS = {form["op"]: form for form in COMMANDS} | {
-    "list": {"op": "list"}, "resolve": RESOLVE, "check": {"op": "check", "needs": PAIRS, "lock": PAIRS, "derivation": [LINE]}}
+    "list": {"op": "list"}, "resolve": RESOLVE,
+    "check": {"op": "check", "needs": PAIRS, "lock": PAIRS, "derivation": [LINE]}}
 LEFT_OUT = {"resolve": {"lock": [], "explain": False, "budget": 0}, "check": {"lock": []}}
 
 
@@ -56,7 +57,8 @@ def sound(value):
 
 
 # Made once: to make one takes as long as to read a line.
-READ = {hook: json.JSONDecoder(parse_int=whole, parse_float=finite, parse_constant=refuse, object_pairs_hook=hook).decode for hook in (None, members)}
+READ = {hook: json.JSONDecoder(parse_int=whole, parse_float=finite, parse_constant=refuse,
+                               object_pairs_hook=hook).decode for hook in (None, members)}
 
 
 def depth(text):
@@ -87,24 +89,6 @@ def read_json(line):
 
 # ---- lines
 
-def made(form):
-    """A function that says of a value whether it has a form, as `formed` does, in less time."""
-    if isinstance(form, dict):
-        names, parts = set(form), [(name, made(it)) for name, it in form.items()]
-        return lambda value: isinstance(value, dict) and value.keys() == names and all(part(value[name]) for name, part in parts)
-    if isinstance(form, tuple):
-        parts = list(map(made, form))
-        return lambda value: isinstance(value, list) and len(value) == len(parts) and all(part(it) for part, it in zip(parts, value))
-    if isinstance(form, list):
-        part = made(form[0])
-        return lambda value: isinstance(value, list) and all(map(part, value))
-    if isinstance(form, str):
-        return lambda value: value == form
-    if form is str:
-        return lambda value: type(value) is str
-    return lambda value: formed(value, form)
-
-
 def read_request(line):
     """What a line asks, with what it leaves out; none where it is of no form."""
     value = read_json(line) if len(line) <= MOST_LINE_BYTES else None
@@ -112,7 +96,7 @@ def read_request(line):
     if not isinstance(op, str) or op not in FORMS:
         return None
     asked = {**LEFT_OUT.get(op, {}), **value}
-    if not MADE[op](asked) or not all(map(named_well, asked.get("derivation", []))):
+    if not formed(asked, FORMS[op]) or not all(map(named_well, asked.get("derivation", []))):
         return None
     # whether a budget was named decides whether it may be spent
     return {**asked, "budgeted": "budget" in value}
@@ -120,9 +104,6 @@ def read_request(line):
 
 def is_whose(name):
     return name == ROOT or NAME.fullmatch(name)
-
-
-MADE, MADE_CAUSES = ({name: made(form) for name, form in forms.items()} for forms in (FORMS, {None: "no cause", **CAUSES}))
 
 
 def kind_of(cause):
@@ -133,23 +114,11 @@ def kind_of(cause):
 
 def named_well(row):
     """Whether the causes of a derivation's line are of a form, and its names are such."""
-    if not all(MADE_CAUSES[kind_of(cause)](cause) for cause in row["causes"]):
+    if not all(kind_of(cause) and formed(cause, CAUSES[kind_of(cause)]) for cause in row["causes"]):
         return False
-    whose = [row["pivot"], *(name for name, _, _ in row["conclusion"]), *(it["target"] for it in row["causes"] if "target" in it)]
+    whose = [row["pivot"], *(name for name, _, _ in row["conclusion"]),
+             *(it["target"] for it in row["causes"] if "target" in it)]
     return all(map(is_whose, whose)) and all(NAME.fullmatch(it["name"]) for it in row["causes"] if "name" in it)
-
-
-class FormedJudge(check_derivation.Judge):
-    """Judges a derivation whose form was judged before."""
-
-    def cause(self, cause):
-        return getattr(self, kind_of(cause))(**{member: value for member, value in cause.items() if member != "fact"})
-
-    def judge(self, rows):
-        check_derivation.demand(rows, "there is no derivation")
-        for row in rows:
-            self.conclude(row)
-        check_derivation.demand(self.conclusions[-1] in ({}, check_derivation.NEVER), "the last line does not say that the request can't be met")
 
 
 @lru_cache(maxsize=None)
@@ -185,7 +154,8 @@ class Published(plain_search.Published):
                 return False
             chosen[name] = rows[0]
         met = all(self.is_met(chosen, asked) for asked in [needs, *(row[1] for row in chosen.values())])
-        return met and list(chosen) == sorted(chosen) and len(chosen) == len(selected) and self.reached(chosen, needs) == set(chosen)
+        in_order = list(chosen) == sorted(chosen) and len(chosen) == len(selected)
+        return met and in_order and self.reached(chosen, needs) == set(chosen)
 
     def is_met_by_some(self, needs, lock):
         """Whether a selection meets a request, where that takes few tries; unknown elsewhere, which is none."""
@@ -236,17 +206,20 @@ class PlainSession:
         """The lowest number that a resolve or a check line is refused by."""
         needs, lock = asked["needs"], asked["lock"]
         premises = [it["need"] for row in asked.get("derivation", []) for it in row["causes"] if "need" in it]
-        tests = [(1, not all(NAME.fullmatch(name) for name, _ in [*needs, *lock])), (2, any(precedence(text) is None for _, text in lock)),
+        tests = [(1, not all(NAME.fullmatch(name) for name, _ in [*needs, *lock])),
+                 (2, any(precedence(text) is None for _, text in lock)),
                  (3, not all(map(is_requirement, [*(text for _, text in needs), *premises]))),
-                 (4, any(len({name for name, _ in pairs}) < len(pairs) for pairs in (needs, lock))), (6, len(needs) > MOST_NEEDS)]
+                 (4, any(len({name for name, _ in pairs}) < len(pairs) for pairs in (needs, lock))),
+                 (6, len(needs) > MOST_NEEDS)]
         return next((number for number, applies in tests if applies), None)
 
     def judge(self, asked, kind=check_derivation.Judge):
-        return kind(self.judged, {"op": "resolve", "needs": asked["needs"], "lock": asked["lock"], "explain": True, "budget": 0})
+        return kind(self.judged,
+                    {"op": "resolve", "needs": asked["needs"], "lock": asked["lock"], "explain": True, "budget": 0})
 
     def checked(self, asked, reply):
         try:
-            self.judge(asked, FormedJudge).judge(asked["derivation"])
+            self.judge(asked).judge(asked["derivation"])
             follows = "true"
         except check_derivation.Fault:
             follows = "false"
@@ -267,11 +240,14 @@ class PlainSession:
         if self.answered.setdefault(question, "selected" in found) != ("selected" in found):
             return "the same was answered otherwise before"
         if "selected" in found:
-            lawful = set(found) == {"selected", "revision"} and formed(found["selected"], PAIRS) and self.published.is_lawful(found["selected"], needs, lock)
+            is_selection = set(found) == {"selected", "revision"} and formed(found["selected"], PAIRS)
+            lawful = is_selection and self.published.is_lawful(found["selected"], needs, lock)
             return None if lawful else "this selection does not meet the request"
         if not asked["explain"]:
-            return "a selection meets the request" if self.published.is_met_by_some(needs, lock) else self.exactly(reply, self.told({"refused": True}))
-        if set(found) != {"derivation", "explanation", "refused", "revision"} or found["refused"] is not True or not formed(found["explanation"], [str]):
+            is_met = self.published.is_met_by_some(needs, lock)
+            return "a selection meets the request" if is_met else self.exactly(reply, self.told({"refused": True}))
+        members = {"derivation", "explanation", "refused", "revision"}
+        if set(found) != members or found["refused"] is not True or not formed(found["explanation"], [str]):
             return "a refusal of another form"
         try:
             self.judge(asked).judge(found["derivation"])
@@ -280,4 +256,5 @@ class PlainSession:
         return None if len(found["explanation"]) == len(found["derivation"]) + 1 else "an explanation of other lines"
 
     def told(self, said):
-        return json.dumps({**said, "revision": self.registry.revision}, sort_keys=True, separators=(",", ":"), ensure_ascii=False)
+        return json.dumps({**said, "revision": self.registry.revision}, sort_keys=True, separators=(",", ":"),
+                          ensure_ascii=False)

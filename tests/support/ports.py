@@ -1,5 +1,5 @@
-"""Ports of this machine for programs that are told theirs. Those that the system gives to whoever connects are left to it: one of them
-might be taken before the program begins."""
+"""Ports of this machine for programs that are told theirs. Those that the system gives to whoever connects are left to
+it: one of them might be taken before the program begins."""
 import itertools
 import os
 import socket

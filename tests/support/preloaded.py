@@ -22,13 +22,14 @@ def built(case, source):
     folder = tempfile.TemporaryDirectory()
     case.addClassCleanup(folder.cleanup)
     library = os.path.join(folder.name, "library.so")
-    subprocess.run(["cc", "-O1", "-shared", "-fPIC", "-o", library, os.path.join(TOP, "tests", "support", "c", source)], check=True)
+    subprocess.run(["cc", "-O1", "-shared", "-fPIC", "-o", library, os.path.join(TOP, "tests", "support", "c", source)],
+                   check=True)
     return library
 
 
 class Refused(NamedTuple):
-    """A run that was refused the request for memory of its number: how it ended, how many requests there were, whether it came to
-    that one, and the folder where it stood."""
+    """A run that was refused the request for memory of its number: how it ended, how many requests there were, whether
+    it came to that one, and the folder where it stood."""
     number: int
     returncode: int
     requests: int
@@ -53,15 +54,17 @@ class Refused(NamedTuple):
 
 
 def each_refused(library, command, given, numbers, behind=0):
-    """Runs a command on these bytes once for each of these numbers, a range; it ends before where so many runs in a row did not
-    come to their request. Yields them in order; what they left stands until the last was asked for."""
+    """Runs a command on these bytes once for each of these numbers, a range; it ends before where so many runs in a row
+    did not come to their request. Yields them in order; what they left stands until the last was asked for."""
     with tempfile.TemporaryDirectory(dir=MEMORY if os.path.isdir(MEMORY) else None) as folder:
         path = os.path.join(folder, "given")
         with open(path, "wb") as out:
             out.write(given)
-        env = {**os.environ, "LD_PRELOAD": library, "REFUSE_FIRST": str(numbers.start), "REFUSE_LAST": str(numbers.stop - 1),
+        env = {**os.environ, "LD_PRELOAD": library, "REFUSE_FIRST": str(numbers.start),
+               "REFUSE_LAST": str(numbers.stop - 1),
                "REFUSE_STEP": str(numbers.step), "REFUSE_BEHIND": str(behind), "REFUSE_GIVEN": path}
-        done = subprocess.run(command, env=env, cwd=folder, stdin=subprocess.DEVNULL, stdout=subprocess.PIPE, stderr=subprocess.PIPE, timeout=600)
+        done = subprocess.run(command, env=env, cwd=folder, stdin=subprocess.DEVNULL, stdout=subprocess.PIPE,
+                              stderr=subprocess.PIPE, timeout=600)
         assert (done.returncode, done.stderr) == (0, b""), done
         for number, line in zip(numbers, done.stdout.splitlines()):
             ended, requests, came = map(int, line.split())
@@ -70,8 +73,8 @@ def each_refused(library, command, given, numbers, behind=0):
 
 
 class Break:
-    """Which calls of a function are broken, and how: the one of a number, and each that comes so many later; by an error's name,
-    or, of reads and writes, so that they are of one byte."""
+    """Which calls of a function are broken, and how: the one of a number, and each that comes so many later; by an
+    error's name, or, of reads and writes, so that they are of one byte."""
 
     def __init__(self, call, number, how, every=0):
         self.call, self.number, self.every = call, number, every

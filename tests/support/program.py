@@ -18,7 +18,8 @@ from tests.support.time_limit import children, limited  # noqa: F401, some tests
 TOP = os.path.dirname(os.path.dirname(os.path.dirname(os.path.abspath(__file__))))
 PROGRAM, PROBE = path_for_tests("registryd"), path_for_tests("probe")
 SERVE = ["serve", "--workers", "1"]
-# Seconds in which a program has answered what a test asks and waits for, on a busy machine too. Only a test that fails waits so long.
+# Seconds in which a program has answered what a test asks and waits for, on a busy machine too. Only a test that fails
+# waits so long.
 PATIENCE = 60
 # The least that a pipe holds.
 PAGE = 4_096
@@ -44,7 +45,7 @@ def unyank(name, version):
 
 
 def resolve(*needs, lock=None, budget=None, explain=None):
-    """A resolve line; needs are texts `name requirement`, the lock's lines texts `name version`, the budget a number."""
+    """A resolve line; needs are texts `name requirement`, those of the lock `name version`."""
     asked = {"op": "resolve", "needs": [need.split(" ", 1) for need in needs]}
     if lock is not None:
         asked["lock"] = [line.split(" ", 1) for line in lock]
@@ -74,9 +75,9 @@ def journal_line(line):
 
 
 def run(words, given=b"", most=None, **more):
-    """Runs the program on these bytes and answers what it left. They come from a file: so each read gives as much as is asked
-    for, and which lines are answered together doesn't hang on how a pipe is filled. Where most is given, a file that the program
-    writes gets so many bytes: what goes beyond that is cut off, and then writes fail."""
+    """Runs the program on these bytes and answers what it left. They come from a file: so each read gives as much as is
+    asked for, and which lines are answered together doesn't hang on how a pipe is filled. Where most is given, a file
+    that the program writes gets so many bytes: what goes beyond that is cut off, and then writes fail."""
     more.setdefault("stdout", subprocess.PIPE)
     with tempfile.TemporaryFile() as file:
         if "stdin" not in more:
@@ -85,7 +86,8 @@ def run(words, given=b"", most=None, **more):
             more["stdin"] = file
         with files_of_at_most(most):
             # a signal that this process passes over is passed over by what it starts, where nothing is restored
-            done = tied.run([PROGRAM, *words], stderr=subprocess.PIPE, timeout=100, restore_signals=most is None, **more)
+            done = tied.run([PROGRAM, *words], stderr=subprocess.PIPE, timeout=100,
+                            restore_signals=most is None, **more)
     if done.returncode == 0 and done.stdout is not None:
         said.note_run(words, given, done.stdout, more.get("cwd", ""))
     return done
@@ -127,8 +129,8 @@ def end(client):
 
 @contextlib.contextmanager
 def files_of_at_most(most):
-    """Meanwhile this process, and what it starts, writes files of at most so many bytes. Set here, and not between the fork and
-    the program, since a fork of a process of this size takes longer than the program."""
+    """Meanwhile this process, and what it starts, writes files of at most so many bytes. Set here, and not between the
+    fork and the program, since a fork of a process of this size takes longer than the program."""
     before = resource.getrlimit(resource.RLIMIT_FSIZE)
     resource.setrlimit(resource.RLIMIT_FSIZE, before if most is None else (most, before[1]))
     try:

@@ -33,5 +33,6 @@ def names(text):
     for code in CODE.findall("\n".join(blocks_left_out(text))):
         if FILE.fullmatch(code):
             yield code
-        elif NAME.fullmatch(code) and (code.startswith("--") or "::" in code or "_" in code or re.search("[a-z0-9][A-Z]|^[A-Z][a-z]", code)):
+        elif NAME.fullmatch(code) and (code.startswith("--") or "::" in code or "_" in code
+                                       or re.search("[a-z0-9][A-Z]|^[A-Z][a-z]", code)):
             yield code.removesuffix("()")

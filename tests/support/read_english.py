@@ -1,8 +1,8 @@
 """Reads the English of a refusal again, sentence by sentence, and judges it: each fact is one of the registry, and each
 conclusion follows from the facts and the conclusions that its sentence names.
 
-A conclusion or a fact is read as an incompatibility: by package the choices, an ordinal or none, that may not all be had.
-"""
+A conclusion or a fact is read as an incompatibility: by package the choices, an ordinal or none, that may not all be
+had."""
 import itertools
 import random
 import re
@@ -60,7 +60,8 @@ class Reader:
         bounds = re.fullmatch(r"(?:>=(\S+))?(?: ?<(\S+))?", text)
         if bounds:
             low, high = (it and read_version(it) for it in bounds.groups())
-            self.demand((low is None) == (bounds[1] is None) and (high is None) == (bounds[2] is None), f"{text!r} has no version")
+            self.demand((low is None) == (bounds[1] is None) and (high is None) == (bounds[2] is None),
+                        f"{text!r} has no version")
             return frozenset(at for at, it in enumerate(self.held(name))
                              if (not low or it.version >= low) and (not high or it.version < high))
         found = frozenset(at for at, it in enumerate(self.held(name)) if it.text == text)
@@ -72,10 +73,10 @@ class Reader:
         found = re.fullmatch(rf"(?:every|any) version of ({NAME})(?: but (.*))?|({NAME})(?: (.*))?", text)
         self.demand(found, f"{text!r} names no versions")
         name, without, spans = found[1] or found[3], found[2], found[4]
-        named = frozenset().union(*(self.span(name, it) for it in re.split(", | or | and ", without or spans))) if without or spans else None
+        told = re.split(", | or | and ", without or spans) if without or spans else []
+        named = frozenset().union(*(self.span(name, it) for it in told))
         self.demand(self.held(name) or spans, f"{name} has no versions")
-        every = self.choices(name) - {NONE}
-        return name, named if spans else every - (named or frozenset())
+        return name, named if spans else self.choices(name) - {NONE} - named
 
     def wanted(self, text):
         """A package and the versions that are asked for, by a requirement or by name."""
@@ -97,11 +98,17 @@ class Reader:
 
     def fact(self, text):
         """What a fact forbids, a list; it has to be one."""
-        for form, read in ((r"the selection has both (.*) and (.*)", self.has_both), (r"the selection has (.*) which depends on (.*)", self.has_through), (r"the selection has (.*)", self.has),
-                           (r"(.*) depends on both (.*) and (.*)", self.both), (r"(.*) depends on (.*) which depends on (.*)", self.through),
-                           (r"(.*) depends on (.*)", self.depends), (rf"no version of ({NAME}) matches (.*)", self.unmet),
-                           (rf"no version of ({NAME}) is published", self.nothing), (r"(.*) is yanked(?: and not in the lock)?", self.yanked),
-                           (r"(.*) is not published", self.missing), (r"(.*) is asked for", self.asked)):
+        for form, read in ((r"the selection has both (.*) and (.*)", self.has_both),
+                           (r"the selection has (.*) which depends on (.*)", self.has_through),
+                           (r"the selection has (.*)", self.has),
+                           (r"(.*) depends on both (.*) and (.*)", self.both),
+                           (r"(.*) depends on (.*) which depends on (.*)", self.through),
+                           (r"(.*) depends on (.*)", self.depends),
+                           (rf"no version of ({NAME}) matches (.*)", self.unmet),
+                           (rf"no version of ({NAME}) is published", self.nothing),
+                           (r"(.*) is yanked(?: and not in the lock)?", self.yanked),
+                           (r"(.*) is not published", self.missing),
+                           (r"(.*) is asked for", self.asked)):
             found = re.fullmatch(form, text)
             if found:
                 return read(*found.groups())
@@ -115,7 +122,8 @@ class Reader:
             self.demand(need in self.request["needs"], f"the request does not need {need}")
             return [self.without(target)]
         name, versions = self.versions(subject)
-        self.demand(versions and all(self.held(name)[it].needs.get(need[0]) == need[1] for it in versions), f"{subject} does not need {need}")
+        self.demand(versions and all(self.held(name)[it].needs.get(need[0]) == need[1] for it in versions),
+                    f"{subject} does not need {need}")
         return [{name: versions, **self.without(target)}]
 
     def has(self, subject):
@@ -135,11 +143,13 @@ class Reader:
     def through(self, subject, one, other):
         name, versions = self.wanted(one)
         target, requirement = re.fullmatch(rf'({NAME}) "?(.*?)"?', other).groups()
-        self.demand(all(self.held(name)[it].needs.get(target) == requirement for it in versions), f"not all of {one} depends on {other}")
+        self.demand(all(self.held(name)[it].needs.get(target) == requirement for it in versions),
+                    f"not all of {one} depends on {other}")
         return [*self.depends(subject, one), {name: versions, **self.without(self.wanted(other))}]
 
     def unmet(self, name, requirement):
-        self.demand(self.held(name) and not self.matching(name, requirement.strip('"')), f"a version of {name} matches {requirement}")
+        self.demand(self.held(name) and not self.matching(name, requirement.strip('"')),
+                    f"a version of {name} matches {requirement}")
         return []
 
     def nothing(self, name):
@@ -155,7 +165,8 @@ class Reader:
 
     def missing(self, subject):
         name, spans = subject.split(" ", 1)
-        self.demand(all(it.startswith("#") and not self.span(name, it) for it in spans.split(" or ")), f"{subject} is published")
+        self.demand(all(it.startswith("#") and not self.span(name, it) for it in spans.split(" or ")),
+                    f"{subject} is published")
         return []
 
     def asked(self, subject):
@@ -171,8 +182,9 @@ class Reader:
             return {}
         if text.startswith("nothing is said of "):
             return None
-        for form in (r"(?P<all>.*) is forbidden", r"(?P<one>.*) is incompatible with (?P<other>.*)", r"(?P<all>.*) are incompatible",
-                     r"the (?:request|selection) requires (?P<wanted>.*)", r"(?P<all>.*) together require (?P<wanted>.*)", r"(?P<one>.*) requires (?P<wanted>.*)"):
+        for form in (r"(?P<all>.*) is forbidden", r"(?P<one>.*) is incompatible with (?P<other>.*)",
+                     r"(?P<all>.*) are incompatible", r"the (?:request|selection) requires (?P<wanted>.*)",
+                     r"(?P<all>.*) together require (?P<wanted>.*)", r"(?P<one>.*) requires (?P<wanted>.*)"):
             found = re.fullmatch(form, text)
             if found:
                 parts = found.groupdict()
@@ -212,7 +224,8 @@ class Reader:
         found = re.fullmatch(r"(Because|And because|Thus)(?: (.*))?, (.*)\.|", sentence)
         self.demand(found and found[1], f"this is no sentence: {sentence}")
         before = {"Because": 0, "And because": 1, "Thus": 2}[found[1]]
-        self.demand(before <= len(concluded) and Unread not in concluded[len(concluded) - before:], f"nothing is told before: {sentence}")
+        self.demand(before <= len(concluded) and Unread not in concluded[len(concluded) - before:],
+                    f"nothing is told before: {sentence}")
         premises = concluded[len(concluded) - before:]
         rest, readings = sentence[len(found[1]):-1], []
         for place in [at.start() for at in re.finditer(", ", rest)]:
@@ -245,7 +258,8 @@ class Reader:
         return [said[1]]
 
     def follows(self, premises, conclusion):
-        """Whether no choices meet the premises and not the conclusion: all are tried, or many where they are too many."""
+        """Whether no choices meet the premises and not the conclusion: all are tried, or many where they are too
+        many."""
         premises = [it for it in premises if it is not None]
         names = sorted({name for it in [*premises, conclusion] for name in it})
         ranges = [sorted(conclusion.get(name, self.choices(name))) for name in names]

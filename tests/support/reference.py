@@ -7,7 +7,9 @@ from registry_cli.limits import MOST_NAME_BYTES, MOST_NEEDS, MOST_PACKAGES, MOST
 
 NUMBER = r"(0|[1-9]\d*)"
 IDENTIFIER = r"(?:0|[1-9]\d*|\d*[A-Za-z-][0-9A-Za-z-]*)"
-VERSION = re.compile(rf"{NUMBER}\.{NUMBER}\.{NUMBER}(?:-({IDENTIFIER}(?:\.{IDENTIFIER})*))?(?:\+[0-9A-Za-z-]+(?:\.[0-9A-Za-z-]+)*)?", re.ASCII)
+VERSION = re.compile(
+    rf"{NUMBER}\.{NUMBER}\.{NUMBER}(?:-({IDENTIFIER}(?:\.{IDENTIFIER})*))?(?:\+[0-9A-Za-z-]+(?:\.[0-9A-Za-z-]+)*)?",
+    re.ASCII)
 NAME = re.compile("[a-z][a-z0-9_-]{0,%d}" % (MOST_NAME_BYTES - 1))
 REFUSALS = {1: "BadName", 2: "BadVersion", 3: "BadRequirement", 4: "RepeatedDependency", 5: "SelfDependency",
             6: "TooManyDependencies", 7: "AlreadyPublished", 8: "TooManyVersions", 9: "TooManyPackages",
@@ -45,7 +47,8 @@ class Registry:
         found = [row for row in held if row[1] == asked]
         if request["op"] == "publish":
             targets = [need[0] for need in needs]
-            tests = [(4, len(set(targets)) < len(targets)), (5, name in targets), (6, len(targets) > MOST_NEEDS), (7, found),
+            tests = [(4, len(set(targets)) < len(targets)), (5, name in targets),
+                     (6, len(targets) > MOST_NEEDS), (7, found),
                      (8, len(held) >= MOST_VERSIONS), (9, len({*self.names, name, *targets}) > MOST_PACKAGES)]
         else:
             tests = [(11, not found), (12, request["op"] == "yank" and found and found[0][2]),

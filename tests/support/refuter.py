@@ -44,7 +44,8 @@ class Known:
     def yanked(self, name, lock):
         """The ordinals that a request with this lock may not have."""
         locked = [key(version) for package, version in lock if package == name]
-        return [place for place, (text, _, yanked) in enumerate(self.releases(name)) if yanked and key(text) not in locked]
+        return [place for place, (text, _, yanked) in enumerate(self.releases(name)) if yanked
+                and key(text) not in locked]
 
     def written(self, terms):
         """The terms as a conclusion has them."""
@@ -59,7 +60,8 @@ class Known:
         said, drawn = [], []
         for row in rows:
             said.append(tuple(self.terms(cause, drawn, request) for cause in row["causes"]))
-            drawn.append({name: frozenset(them) if inside else CHOICES - set(them) for name, inside, them in row["conclusion"]})
+            drawn.append({name: frozenset(them) if inside else CHOICES - set(them) for name, inside,
+                          them in row["conclusion"]})
         return said
 
     def terms(self, cause, drawn, request):
@@ -108,7 +110,8 @@ class Refuter:
                 for versions in [places] if self.rng.random() < 0.5 else [[it] for it in places]:
                     within = self.known.matching(target, requirement) + [BEYOND] * (self.rng.random() < 0.2)
                     yield (without({name: set(versions), target: CHOICES - set(within)}),
-                           {"fact": "premise", "name": name, "need": requirement, "target": target, "versions": versions, "within": within})
+                           {"fact": "premise", "name": name, "need": requirement, "target": target,
+                            "versions": versions, "within": within})
 
     def line(self, first, second, pivot):
         """A line from two causes, and what it concludes."""
@@ -156,4 +159,5 @@ class Refuter:
                 kept |= {it["line"] for it in self.rows[number - 1]["causes"] if "line" in it}
         places = {number: place for place, number in enumerate(sorted(kept), 1)}
         self.rows = [{**self.rows[number - 1], "causes": [{"line": places[it["line"]]} if "line" in it else it
-                                                          for it in self.rows[number - 1]["causes"]]} for number in places]
+                                                          for it in self.rows[number - 1]["causes"]]}
+                     for number in places]

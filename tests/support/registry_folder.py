@@ -37,25 +37,27 @@ class Folder(unittest.TestCase):
         self.assertEqual((done.returncode, done.stdout.count(b'{"ok":true')), (0, len(lines)))
 
     def registry(self, *words, **more):
-        """The status, the output and the errors of the command on that journal, with the folder's name left out of them."""
+        """The status, the output and the errors of the command on that journal, with the folder's name left out."""
         status, *said = registry(*words, "--journal", self.journal, **more)
         return status, *(it.replace(self.folder + os.sep, "") for it in said)
 
 
 def pigeons(count):
-    """Pigeons in one hole less, and the needs for all of them: a pigeon's version names a hole, of which one version lets one pigeon
-    in. That they don't all fit takes a long search, which grows fast with their number."""
+    """Pigeons in one hole less, and the needs for all of them: a pigeon's version names a hole, of which one version
+    lets one pigeon in. That they don't all fit takes a long search, which grows fast with their number."""
     lines = [publish(f"hole-{hole}", f"{pigeon}.0.0") for hole in range(count - 1) for pigeon in range(count)]
-    lines += [publish(f"pigeon-{pigeon}", f"{hole}.0.0", [f"hole-{hole} ={pigeon}.0.0"]) for pigeon in range(count) for hole in range(count - 1)]
+    lines += [publish(f"pigeon-{pigeon}", f"{hole}.0.0", [f"hole-{hole} ={pigeon}.0.0"])
+              for pigeon in range(count) for hole in range(count - 1)]
     return lines, [f"pigeon-{number}" for number in range(count)]
 
 
 def at_terminal(words, environment, typed=b"", columns=0, lines=0):
-    """The status of a command whose standard streams are a terminal, which may say its size, and all that the terminal shows; what is
-    typed, is typed at once."""
+    """The status of a command whose standard streams are a terminal, which may say its size, and all that the terminal
+    shows; what is typed, is typed at once."""
     ours, theirs = pty.openpty()
     fcntl.ioctl(theirs, termios.TIOCSWINSZ, struct.pack("4H", lines, columns, 0, 0))
-    with subprocess.Popen(words, stdin=theirs, stdout=theirs, stderr=theirs, env={**os.environ, "TERM": "xterm", **environment}) as running:
+    given = {**os.environ, "TERM": "xterm", **environment}
+    with subprocess.Popen(words, stdin=theirs, stdout=theirs, stderr=theirs, env=given) as running:
         os.close(theirs)
         os.write(ours, typed)
         shown = b""

@@ -1,10 +1,8 @@
 """Tables of rows: each row names one public call of a crate, what it is given and what it is to give. rows/README.md
 says how they are written.
 
-The calls are made by the program `probe`. The environment variable PROBE may name another program to be run instead, as a script that
-runs `rt try` in the crate's folder.
-"""
-import glob
+The calls are made by the program `probe`. The environment variable PROBE may name another program to be run instead, as
+a script that runs `rt try` in the crate's folder. """
 import json
 import os
 import subprocess
@@ -27,8 +25,8 @@ class BadRows(Exception):
 
 
 class Row:
-    """One call: the line that asks for it, where it stands, and the answer that is wanted. A row that a function made may have a
-    member `by`, a function of the answer: what it gives is compared in the answer's place."""
+    """One call: the line that asks for it, where it stands, and the answer that is wanted. A row that a function made
+    may have a member `by`, a function of the answer: what it gives is compared in the answer's place."""
 
     def __init__(self, place, given):
         if not isinstance(given, dict) or not all(isinstance(given.get(name), str) for name in ("of", "call")):
@@ -44,7 +42,7 @@ class Row:
             try:
                 got = self.by(got)
             except (LookupError, TypeError, ValueError) as fault:
-                return f"{self.place}: {cut(self.asked)}\n  got    {cut(plain(got))}\n  which is of another form: {fault!r}"
+                return f"{self.place}: {cut(self.asked)}\n  got    {cut(plain(got))}\n  of another form: {fault!r}"
         if plain(got) == plain(self.wanted):
             return None
         return f"{self.place}: {cut(self.asked)}\n  wanted {cut(plain(self.wanted))}\n  got    {cut(plain(got))}"
@@ -129,18 +127,16 @@ def generated(tables):
     for title, rows in tables:
         table = Table(title)
         table.rows = [Row(f"{title}, row {number}", row) for number, row in enumerate(rows, 1)]
-        if not table.rows:
-            raise BadRows(f"the table `{title}` has no rows")
         found.append(table)
-    if not found:
+    if not found or not all(table.rows for table in found):
         raise BadRows("there are no rows")
     return found
 
 
-def files():
-    """The files of rows, each with the name that it is told by."""
-    found = sorted(glob.glob(os.path.join(ROWS, "*.rows")))
-    return [(path, os.path.relpath(path, TOP)) for path in found]
+def of_file(name):
+    """The tables of a file below `rows`."""
+    with open(os.path.join(TOP, "rows", name), encoding="utf-8", newline="\n") as text:
+        return tables_in(text.read(), f"rows/{name}")
 
 
 def answers(command, lines, **more):
@@ -148,10 +144,11 @@ def answers(command, lines, **more):
     with tempfile.TemporaryFile() as asked:
         asked.write("".join(line + "\n" for line in lines).encode())
         asked.seek(0)
-        done = subprocess.run(command, stdin=asked, stdout=subprocess.PIPE, stderr=subprocess.PIPE, timeout=LIMIT, **more)
+        done = subprocess.run(command, stdin=asked, stdout=subprocess.PIPE, stderr=subprocess.PIPE,
+                              timeout=LIMIT, **more)
     told = done.stdout.decode().splitlines()
     if done.returncode or len(told) != len(lines):
-        raise BadRows(f"{' '.join(command)}: {len(told)} answers to {len(lines)} rows, and then status {done.returncode}\n"
+        raise BadRows(f"{' '.join(command)}: {len(told)} answers to {len(lines)} rows, then status {done.returncode}\n"
                       f"{done.stderr.decode(errors='replace')}")
     return [json.loads(line) for line in told]
 

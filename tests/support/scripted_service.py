@@ -5,17 +5,57 @@ import socket
 import tempfile
 import threading
 
+from registryd import List, Publish, Unyank, Yank
+
 GREETING = '{"op":"resolve","needs":[]}'
 FENCE = "{}"
+ASKED = {it.line(): it for it in (Publish("log", "1.0.0"), Yank("log", "1.0.0"), Unyank("log", "1.0.0"), List())}
+PUBLISH, YANK, UNYANK, LIST = ASKED
+PUBLISHED, YANKED, UNYANKED = ('{"name":"log","needs":[],"op":"publish","version":"1.0.0"}',
+                               '{"name":"log","op":"yank","version":"1.0.0"}',
+                               '{"name":"log","op":"unyank","version":"1.0.0"}')
+UNAVAILABLE = '{"error":503,"name":"Unavailable","revision":1}\n'
+REFUSED = ('{"error":503,"name":"DiskFault","reason":"the journal can\'t be written: No '
+           'space left on device","revision":1}\n')
+PUBLISHED_BEFORE = '{"error":7,"name":"AlreadyPublished","revision":1}\n'
+LISTED = '{"packages":[["log",[["1.0.0",true]]]],"revision":4}\n'
+
+
+def accepted(*revisions):
+    return "".join(f'{{"ok":true,"revision":{it}}}\n' for it in revisions)
+
+
+# What becomes of lines whose replies are lost: the journal's commands, the service's scripts, the lines that a client
+# is given, the
+# replies that it gives in the end, and what each connection is asked.
+JOURNAL, ALL = [PUBLISHED, YANKED, UNYANKED], [YANK, UNYANK, YANK, LIST]
+LOST = [
+    # commands are looked up in their order
+    *((JOURNAL, [(4, first), (2, accepted(4) + LISTED)], ALL, accepted(2, 3, 4) + LISTED,
+       [[GREETING, *ALL], [FENCE, YANK, LIST]])
+      for first in ("", UNAVAILABLE, '{"ok":true,"rev', accepted(2), accepted(2, 3), accepted(2) + UNAVAILABLE
+                    + LISTED)),
+    # what a service refuses is not asked again
+    ([], [(2, REFUSED + LISTED)], [YANK, LIST], REFUSED + LISTED, [[GREETING, YANK, LIST]]),
+    # between what is asked again a command that was carried out is answered at its place
+    (JOURNAL, [(3, ""), (1, LISTED), (1, LISTED)], [LIST, YANK, LIST], LISTED + accepted(2) + LISTED,
+     [[GREETING, LIST, YANK, LIST], [FENCE, LIST], [GREETING, LIST]]),
+    # what stood when it connected is no answer
+    ([PUBLISHED], [(1, ""), (1, PUBLISHED_BEFORE)], [PUBLISH], PUBLISHED_BEFORE,
+     [[GREETING, PUBLISH], [FENCE, PUBLISH]]),
+    # requests alone need no look
+    ([], [(1, ""), (1, UNAVAILABLE), (1, LISTED)], [LIST], LISTED, [[GREETING, LIST]] * 3),
+]
 
 
 class Scripted:
-    """Each connection has its first line answered by the revision, and then, once so many lines came, gets the text of the next
-    script; it is closed then, or left open where the text ends by `...`. After the last script nobody listens any more. Over HTTP
-    it tells the journal of these commands."""
+    """Each connection has its first line answered by the revision, and then, once so many lines came, gets the text of
+    the next script; it is closed then, or left open where the text ends by `...`. After the last script nobody listens
+    any more. Over HTTP it tells the journal of these commands."""
 
     def __init__(self, folder, revision, commands, scripts):
-        self.path, self.revision, self.scripts = os.path.join(tempfile.mkdtemp(dir=folder), "socket"), revision, list(scripts)
+        self.path, self.revision, self.scripts = os.path.join(tempfile.mkdtemp(dir=folder),
+                                                              "socket"), revision, list(scripts)
         self.journal = "".join(f"{line}\n" for line in ["registry-journal 1", *commands, f"end {len(commands)}"])
         self.asked = []  # the lines of each connection
         self.is_over = threading.Event()  # what is left open is closed then

@@ -27,8 +27,11 @@ sys.exit(main(sys.argv[1:]))
 
 # The seconds of a stop as they are needed on a busy machine: so that all that is under way comes to its end.
 PATIENT = [("service", name, float(PATIENCE)) for name in ("GRACE", "ENDING", "READING")]
-# What a service says of a request that took longer than a second, and of a reader that it has ended since a client had two such.
-LONG = re.compile(r"\S+ (?:client=\S+ connection=[0-9]+ op=\w+ (?:package=\S+ version=\S+ )?seconds=[1-9][0-9]*\.[0-9]+ reply=.*|event=restart program=reader why='the program ended with status -9')\n")
+# What a service says of a request that took longer than a second, and of a reader that it has ended since a client had
+# two such.
+LONG = re.compile(r"\S+ (?:client=\S+ connection=[0-9]+ op=\w+ (?:package=\S+ "
+                  r"version=\S+ )?seconds=[1-9][0-9]*\.[0-9]+ reply=.*|event=restart "
+                  r"program=reader why='the program ended with status -9')\n")
 
 
 class Client:
@@ -94,7 +97,8 @@ class Service:
         listening = [] if "--port" in words else ["--socket", self.socket]
         # a file, since a service that tells of many slow requests would wait for who reads a pipe
         self.errors = tempfile.TemporaryFile("w+")
-        self.running = subprocess.Popen([*command, "serve", "--journal", str(self.journal), *listening, *words], stdout=subprocess.PIPE,
+        self.running = subprocess.Popen([*command, "serve", "--journal", str(self.journal), *listening, *words],
+                                        stdout=subprocess.PIPE,
                                         stderr=self.errors, text=True, preexec_fn=heed_signals,
                                         env={**os.environ, "REGISTRY_PROGRAM": PROGRAM, "PYTHONPATH": TOP}, **more)
         self.begun = self.running.stdout.readline()
@@ -108,7 +112,8 @@ class Service:
         return Client(self.address())
 
     def programs(self):
-        """The processes of its programs: the one that keeps the journal, and the readers in the order in which they began."""
+        """The processes of its programs: the one that keeps the journal, and the readers in the order in which
+        they began."""
         keepers, readers, own = [], [], words_of(self.running.pid)
         for path in Path("/proc").glob("[0-9]*/stat"):
             with contextlib.suppress(OSError):
@@ -144,7 +149,8 @@ class Service:
         return self.wait()
 
     def wait(self):
-        """Waits for its end, and then for that of its programs: so whoever begins the next one finds the journal free."""
+        """Waits for its end, and then for that of its programs: so whoever begins the next one finds the
+        journal free."""
         self.said, _ = self.running.communicate(timeout=PATIENCE)
         if self.begun:
             wait_for(lambda: is_free(self.journal))

@@ -1,14 +1,17 @@
-"""Request lines with the mistakes of people: of their keyboards, of their editors, of other tools' ways. Nothing here says what a
-line is answered."""
+"""Request lines with the mistakes of people: of their keyboards, of their editors, of other tools' ways. Nothing here
+says what a line is answered."""
 import json
 import re
 
 from tests.support.made_lines import NAMES, REQUIREMENTS, VERSIONS, Maker
 
 LETTERS = "0123456789.*xX^~=<>,- +abzAZ_|v\t!&()[]/'\"\\ é\u00a0\u200b\U0001f600"
-TOOLS = ["~> 1.2", "~> 1.2.3", "=> 1", "==1.0", "^1 || ^2", ">=1 <2", "1.2.3 - 2.0.0", "[1.0,2.0)", "", "latest", "1.2-alpha", ">=*", "*.1", "1.*.2",
-         "01.2", "v1.2", "1.2.3.4", "1,", ",1", "!=1", "(>= 1.0)", "<< 2", ">> 1.0", "~=1.4.2", ">=1.2,,<2", "^1 2", "\t1", "*,*", "* ", " x ", "X,1",
-         "^ 1", "^  1.2 , <3", "=1.*", "1.x.X", "1.2.x-a", "1.2.3-a.b+c", "1.2.3+", ">=1.2.3-0", "<1.2.3-01", "1.2.3 ,", "^18446744073709551615", "~18446744073709551616"]
+TOOLS = ["~> 1.2", "~> 1.2.3", "=> 1", "==1.0", "^1 || ^2", ">=1 <2", "1.2.3 - 2.0.0", "[1.0,2.0)", "", "latest",
+         "1.2-alpha", ">=*", "*.1", "1.*.2",
+         "01.2", "v1.2", "1.2.3.4", "1,", ",1", "!=1", "(>= 1.0)", "<< 2", ">> 1.0", "~=1.4.2", ">=1.2,,<2", "^1 2",
+         "\t1", "*,*", "* ", " x ", "X,1",
+         "^ 1", "^  1.2 , <3", "=1.*", "1.x.X", "1.2.x-a", "1.2.3-a.b+c", "1.2.3+", ">=1.2.3-0", "<1.2.3-01", "1.2.3 ,",
+         "^18446744073709551615", "~18446744073709551616"]
 
 
 class Slips(Maker):
@@ -75,7 +78,10 @@ SLIPS = [
     lambda maker, text: maker.once(r"\]", r"}", text),
     lambda maker, text: maker.once(r'"', r"", text),
     lambda maker, text: maker.once(r'"(\w+)"', r'"\1s"', text),
-    lambda maker, text: maker.once(r'(?<=")[a-z]+(?=")', maker.near_text(maker.rng.choice(["op", "needs", "version", "name", "publish", "list"])).replace("\\", ""), text),
+    lambda maker,
+    text: maker.once(r'(?<=")[a-z]+(?=")',
+                     maker.near_text(maker.rng.choice(["op", "needs", "version", "name", "publish", "list"])).replace(
+                         "\\", ""), text),
     lambda maker, text: "\ufeff" + text,
     lambda maker, text: text + ",",
     lambda maker, text: text + ";",

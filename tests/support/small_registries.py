@@ -1,5 +1,5 @@
-"""Random registries of a few packages that stand in each other's way, with pre-releases, build metadata and yanks, and requests
-with locks: the cases for which all selections can be listed."""
+"""Random registries of a few packages that stand in each other's way, with pre-releases, build metadata and yanks, and
+requests with locks: the cases for which all selections can be listed."""
 from dataclasses import dataclass
 
 RELEASES = ["1.0.0", "1.1.0", "1.2.0", "2.0.0", "0.1.0", "2.1.3"]
@@ -38,8 +38,10 @@ class Maker:
         density = self.rng.choice([0.2, 0.35, 0.5, 0.7])
         rows = [(name, version) for name, versions in self.versions.items() for version in versions]
         self.rng.shuffle(rows)
-        made = [{"op": "publish", "name": name, "version": version, "needs": self.needs(name, density)} for name, version in rows]
-        return made + [{"op": "yank", "name": name, "version": version} for name, version in rows if self.rng.random() < 0.12]
+        made = [{"op": "publish", "name": name, "version": version, "needs": self.needs(name, density)} for name,
+                version in rows]
+        return made + [{"op": "yank", "name": name, "version": version} for name,
+                       version in rows if self.rng.random() < 0.12]
 
     def request(self):
         names = list(self.versions)
@@ -47,7 +49,8 @@ class Maker:
         made = {"op": "resolve", "needs": [[name, self.rng.choice(["*", self.requirement(name)])] for name in asked]}
         if self.rng.random() < 0.5:
             locked = self.rng.sample(names, self.rng.randint(0, len(names)))
-            made["lock"] = [[name, self.rng.choice(self.versions[name]) if self.rng.random() < 0.9 else UNPUBLISHED] for name in locked]
+            made["lock"] = [[name, self.rng.choice(self.versions[name]) if self.rng.random() < 0.9 else UNPUBLISHED]
+                            for name in locked]
         return made
 
 

@@ -1,7 +1,7 @@
 """Which functions of the crates a call can come to, by the calls in their sources.
 
-Names decide, not types: `x.len()` counts as a call of every method `len` of a crate that stands below. So a function too many may
-be found to be reached, but none that is reached is missed."""
+Names decide, not types: `x.len()` counts as a call of every method `len` of a crate that stands below. So a function
+too many may be found to be reached, but none that is reached is missed."""
 import collections
 import dataclasses
 import glob
@@ -10,7 +10,8 @@ import re
 
 WORD = r"[A-Za-z_]\w*"
 FUNCTION = re.compile(rf"^ *(?:pub(?:\(crate\))? )?(?:unsafe )?(?:extern \"C\" )?fn (?P<name>{WORD})", re.M)
-OWNER = re.compile(rf"^(?:unsafe )?(?:impl(?:<[^\n]*?>)? (?:[^\n]*? for )?(?P<type>{WORD})|(?:pub )?trait (?P<trait>{WORD}))", re.M)
+OWNER = re.compile(
+    rf"^(?:unsafe )?(?:impl(?:<[^\n]*?>)? (?:[^\n]*? for )?(?P<type>{WORD})|(?:pub )?trait (?P<trait>{WORD}))", re.M)
 IMPORT = re.compile(r"^(?:pub )?use (\w+)(?:::\w+)*::(?:\{([^}]*)\}|(\w+));", re.M)
 # `name(` and `Type::name(`, with what stands before it
 CALL = re.compile(rf"(?P<dot>\.)?(?:\b(?P<owner>{WORD})(?:::<[^()]*?>)?::)?\b(?P<name>{WORD})(?:::<[^()]*?>)?\(")
@@ -58,7 +59,7 @@ def imports_of(text, crates):
 
 
 def calls_in(body, own):
-    """What a function's text calls or hands over: whether as a method, the owner that is named, if one is, and the name."""
+    """What a function's text calls or hands over: whether as a method, of which owner, and by which name."""
     for call in CALL.finditer(body):
         yield bool(call["dot"]), own if call["owner"] == "Self" else call["owner"] or "", call["name"]
     for handed in HANDED.finditer(body):
@@ -102,7 +103,8 @@ class Sources:
             return {one for one in there if one.owner}
         if owner and owner[0].isupper():
             # a parameter's or a trait's function is any type's
-            return {one for one in there if one.owner == owner} or {one for one in there if one.owner and len(owner) < 3}
+            return {one for one in there if one.owner == owner} or {one for one in there if one.owner
+                                                                    and len(owner) < 3}
         found = {one for one in there if not one.owner and one.crate == imports.get(name, caller.crate)}
         # a name alone means the file's own function, where it has one
         own = {one for one in found if one.path == caller.path}

@@ -117,4 +117,5 @@ def tables_in(path):
 def tables_under(folder):
     """The tables of each file of a folder of `rows/`."""
     top = os.path.join(TOP, "rows", folder)
-    return [table for name in sorted(os.listdir(top)) if name.endswith(".rows") for table in tables_in(os.path.join(top, name))]
+    return [table for name in sorted(os.listdir(top)) if name.endswith(".rows")
+            for table in tables_in(os.path.join(top, name))]

@@ -4,4 +4,5 @@ from pathlib import Path
 
 from tests.support.program import TOP
 
-TEACHING = int(re.search(r"\*\*A refusal\*\* of at most (\d+) steps", Path(TOP, "docs", "SOLVER.md").read_text(encoding="utf-8"))[1])
+TEACHING = int(re.search(r"\*\*A refusal\*\* of at most (\d+) steps",
+                         Path(TOP, "docs", "SOLVER.md").read_text(encoding="utf-8"))[1])

@@ -17,8 +17,8 @@ def children():
 
 @contextlib.contextmanager
 def limited(seconds):
-    """A test that waits for more than so many seconds meanwhile fails, and what it has started is ended: so a program that never
-    replies hangs no test."""
+    """A test that waits for more than so many seconds meanwhile fails, and what it has started is ended: so a program
+    that never replies hangs no test."""
     def break_off(*_):
         signal.setitimer(signal.ITIMER_REAL, 0)  # to find them may take longer than the limit
         for child in children():

@@ -9,8 +9,10 @@ from __future__ import annotations
 import asyncio
 from typing import Any
 
-from . import (Accepted, Check, Derivation, List, Listing, NoSelection, Pairs, Publish, Registry, Request, Resolve,
-               Selection, Unyank, Verdict, Yank, _Embedded)
+from . import Registry
+from .embedded import Embedded
+from .replies import Accepted, Listing, NoSelection, Selection, Verdict
+from .requests import Check, Derivation, List, Pairs, Publish, Request, Resolve, Unyank, Yank
 
 
 class AsyncRegistry:
@@ -20,7 +22,7 @@ class AsyncRegistry:
 
     def __init__(self, registry: Registry) -> None:
         self._registry = registry
-        self._is_embedded = isinstance(registry._session, _Embedded)
+        self._is_embedded = isinstance(registry._session, Embedded)
 
     @classmethod
     async def open(cls, *arguments: Any, **options: Any) -> AsyncRegistry:

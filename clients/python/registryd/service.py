@@ -14,8 +14,9 @@ import time
 from collections import deque
 from collections.abc import Sequence
 
-from . import (CLOSED, WAITED, Accepted, Answered, Awaited, Ended, Ending, Futures, Threaded, answer, taken_from,
-               tell_all)
+from . import waiting
+from .replies import Accepted, Ended, answer
+from .waiting import CLOSED, Ending, Futures, Threaded, Waiting, taken_from, tell_all
 
 PATIENCE, PAUSE = 10.0, 0.1  # seconds for a service to be there again, and between two tries
 LEAST = 0.001  # seconds to wait at least, since 0 would mean not to wait at all
@@ -26,7 +27,7 @@ REQUESTS = ("resolve", "check", "list")
 GREETING = b'{"op":"resolve","needs":[]}\n'  # its reply tells the revision
 FENCE = b"{}\n"  # the program that keeps the journal refuses it, once all commands that came before are in the journal
 
-Line = tuple[bytes, "Awaited | Answered"]  # with what waits for its reply
+Line = tuple[bytes, Waiting]  # with what waits for its reply
 
 
 class Connection(Threaded):
@@ -76,7 +77,7 @@ class Connection(Threaded):
         self._is_closed = True
         self._break_off()
         if threading.current_thread() not in self._threads:
-            self._ending.wait(WAITED)  # the system may be looking up a host
+            self._ending.wait(waiting.WAITED)  # the system may be looking up a host
 
     def _break_off(self) -> None:
         """Has the thread that reads come to its end."""
@@ -192,7 +193,7 @@ class Connection(Threaded):
                 return True
         return False
 
-    def _known(self, commands: list[bytes]) -> list[tuple[Awaited | Answered, int]]:
+    def _known(self, commands: list[bytes]) -> list[tuple[Waiting, int]]:
         """Which lines were carried out, by their revisions: after what was told last, and in their order."""
         with self._lock:
             waiting = list(self._waiting)
@@ -203,7 +204,7 @@ class Connection(Threaded):
                 known.append((future, revision))
         return known
 
-    def _go_on_with(self, connection: socket.socket, known: list[tuple[Awaited | Answered, int]]) -> None:
+    def _go_on_with(self, connection: socket.socket, known: list[tuple[Waiting, int]]) -> None:
         """Asks by another connection what is not known."""
         settled = {id(future) for future, _ in known}
         with self._lock:

@@ -13,11 +13,25 @@ const ROOM: usize = 65_536;
 /// How many bytes of what is the matter are told, with the 0 behind them.
 const WORDS: usize = 4096;
 const OK: c_int = 0;
+const NO_MEMORY: c_int = 2;
+/// How many seats a journal may have.
+const MOST_SEATS: usize = 64;
+
+/// Where a seat answered.
+#[repr(C)]
+#[derive(Default)]
+struct Stamp {
+    place: u32,
+    seat: u32,
+}
 
 // The calls of registryd.h that are used here. Each answers `OK` where all is well.
 extern "C" {
     fn registryd_open_embedded(load: *const c_char, save: *const c_char, session: *mut u64, words: *mut c_char, room: usize) -> c_int;
     fn registryd_open_embedded_journal(journal: *const c_char, session: *mut u64, words: *mut c_char, room: usize) -> c_int;
+    fn registryd_open_seats(load: *const c_char, entries: usize, seats: *mut u64, count: usize, words: *mut c_char, room: usize) -> c_int;
+    fn registryd_journal(seat: u64, room: *mut c_char, size: usize, length: *mut usize) -> c_int;
+    fn registryd_stamp(line: *const c_char, length: usize, stamp: *mut Stamp) -> c_int;
     fn registryd_ask(
         session: u64,
         lines: *const c_void,
@@ -38,6 +52,17 @@ pub(crate) struct Embedded {
     session: u64,
     /// Where replies are taken to.
     bytes: Vec<u8>,
+    /// The last replies.
+    told: Vec<u8>,
+}
+
+/// Opens so many seats of one journal.
+pub(crate) fn open_seats(count: usize, load: Option<&Path>, entries: usize) -> Result<Vec<Embedded>, Ended> {
+    let load = text(&load)?;
+    let mut sessions = [0; MOST_SEATS];
+    // the text ends with a 0 and outlives the call, which refuses to open more seats than there is room for
+    told(|words, room| unsafe { registryd_open_seats(at(&load), entries, sessions.as_mut_ptr(), count, words, room) })?;
+    Ok(sessions[..count].iter().map(|it| Embedded::of(*it)).collect())
 }
 
 impl Embedded {
@@ -53,7 +78,6 @@ impl Embedded {
             return Err(Ended::of("a session that goes on with a journal loads and saves none"));
         }
         let mut session = 0;
-        let at = |text: &Option<CString>| text.as_ref().map_or(null(), |it| it.as_ptr());
         // each text ends with a 0 and outlives the call, which keeps none
         told(|words, room| unsafe {
             match journal {
@@ -61,7 +85,38 @@ impl Embedded {
                 None => registryd_open_embedded(at(&load), at(&save), &mut session, words, room),
             }
         })?;
-        Ok(Embedded { session, bytes: vec![0; ROOM] })
+        Ok(Embedded::of(session))
+    }
+
+    fn of(session: u64) -> Embedded {
+        Embedded { session, bytes: vec![0; ROOM], told: Vec::new() }
+    }
+
+    /// How many entries of the journal a seat had read when it answered last; 0 where it has not.
+    pub(crate) fn place(&self) -> u32 {
+        let mut stamp = Stamp::default();
+        let line = self.told.strip_suffix(b"\n").and_then(|it| it.rsplit(|byte| *byte == b'\n').next());
+        if let Some(line) = line {
+            // the length is that of the slice
+            unsafe { registryd_stamp(line.as_ptr().cast(), line.len(), &mut stamp) };
+        }
+        stamp.place
+    }
+
+    /// The journal that a seat has seen.
+    pub(crate) fn journal(&self) -> Result<String, Ended> {
+        let (mut text, mut length) = (Vec::<u8>::new(), 0);
+        loop {
+            // the length is that of the slice
+            let answer = unsafe { registryd_journal(self.session, text.as_mut_ptr().cast(), text.len(), &mut length) };
+            if answer != NO_MEMORY || length == 0 {
+                self.check(answer)?;
+                text.truncate(length);
+                return String::from_utf8(text).map_err(|_| Ended::of("the journal is no text"));
+            }
+            // others may enter more before it is copied
+            text.resize(2 * length, 0);
+        }
     }
 
     /// Tells of a call that didn't answer `OK`.
@@ -92,6 +147,7 @@ impl Way for Embedded {
             is_more = left > 0;
         }
         let (replies, fault) = read_replies(&mut &text[..], count);
+        self.told = text;
         (replies, is_done.map_or_else(|it| it.fault, |()| fault))
     }
 
@@ -115,6 +171,14 @@ impl Way for Embedded {
     fn id(&self) -> u32 {
         process::id()
     }
+
+    fn embedded(&self) -> Option<&Embedded> {
+        Some(self)
+    }
+}
+
+fn at(text: &Option<CString>) -> *const c_char {
+    text.as_ref().map_or(null(), |it| it.as_ptr())
 }
 
 /// A path as the library takes it.

@@ -8,6 +8,8 @@ use std::time::Duration;
 
 use crate::child::Program;
 use crate::culprit::{self, Culprit};
+#[cfg(feature = "embedded")]
+use crate::embedded::Embedded;
 use crate::json::Value;
 use crate::meant::meant;
 use crate::reply::{self, Packages};
@@ -111,6 +113,11 @@ pub(crate) trait Way {
     fn kill(&mut self);
     /// The number of the process that answers, or 0.
     fn id(&self) -> u32;
+    /// What is asked in this process, where something is.
+    #[cfg(feature = "embedded")]
+    fn embedded(&self) -> Option<&Embedded> {
+        None
+    }
 }
 
 /// A session, with a program of its own, in this process or with a service. One that is dropped is closed, and how that ended isn't told.
@@ -147,7 +154,7 @@ impl Registry {
     /// Begins a session in this process, which starts no other one. Lines are answered one after another, by the thread that asks.
     #[cfg(feature = "embedded")]
     pub fn embedded(options: &Options) -> Result<Registry, Error> {
-        Ok(Registry::of(crate::embedded::Embedded::open(options)?))
+        Ok(Registry::of(Embedded::open(options)?))
     }
 
     /// Begins a session with a service, `registry serve`, at the path of its socket or at HOST:PORT. The service has a journal of its
@@ -165,7 +172,7 @@ impl Registry {
         Ok(Registry::of(Service::open(address.as_ref(), patience)?))
     }
 
-    fn of(way: impl Way + Send + 'static) -> Registry {
+    pub(crate) fn of(way: impl Way + Send + 'static) -> Registry {
         Registry { way: Box::new(way), ended: None, is_closed: false }
     }
 
@@ -280,6 +287,15 @@ impl Registry {
     /// The number of the process that answers: the program's, or this one's; 0 where that is a service, which has several.
     pub fn id(&self) -> u32 {
         self.way.id()
+    }
+
+    /// What is asked in this process, as long as the session goes on.
+    #[cfg(feature = "embedded")]
+    pub(crate) fn embedded_way(&self) -> Result<&Embedded, Ended> {
+        match &self.ended {
+            Some(ended) => Err(ended.clone()),
+            None => self.way.embedded().ok_or_else(|| Ended::of("the session is not in this process")),
+        }
     }
 
     fn command(&mut self, request: Request<'_>) -> Result<u64, Error> {

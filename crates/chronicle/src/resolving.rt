@@ -11,7 +11,7 @@ use registry::Request;
 use solver::{Options, Outcome, an_outcome_is_the_answer, solve_with};
 use versions::Refusal;
 
-impl<'a> Seat<'a> {
+impl Seat {
     /// Resolves a request at the place where the seat then stands, which the stamp names: by the newest
     /// selection, or by why there is none. Errors are [`Refusal::NoMemory`] and [`Refusal::Stray`].
     pub fn resolve(&mut self, request: &Request) -> Result<(Stamp, Outcome), Refusal>
@@ -69,7 +69,7 @@ impl<'a> Seat<'a> {
 
 /// Answers a request where a seat stands.
 fn answer_here(
-    seat: &Seat<'_>,
+    seat: &Seat,
     request: &Request,
     options: Options,
 ) -> Result<(Stamp, Outcome), Refusal>

@@ -14,7 +14,7 @@ use Rattle.serde_json.specs.Data.{Data}
 use Rattle.serde_json.specs.Read.{max_depth, of_json, read}
 use Rattle.versions.specs.declared.refusal.Refusal.TheVariants.{BadLine}
 use Rattle.lines.specs.Unread.{line_limit}
-use Rattle.wire.specs.Requests.{judged, request_of, request_of_text}
+use Rattle.wire.specs.Requests.{judged, request_of}
 use Rattle.wire.specs.Shapes.{Request, shape_of}
 
 -- a line that is too long
@@ -34,10 +34,6 @@ asked_nothing = either (is_utf8 []) (Err BadLine)
 pub asked_empty : (line : List ℕ) → length line ≡ 0 → request_of line ≡ Err BadLine
 asked_empty line none = ap request_of (nil_from_length line none) ∙ asked_nothing
 
-asked_short : (line : List ℕ) → length line ≤ line_limit → request_of line ≡ request_of_text line
-unfolding request_of
-asked_short line short = let fits : nat_le (length line) line_limit ≡ true = search rules in rw fits refl
-
 abbrev whole : Option (json.Json × List Token) → Option Data
 whole found = option_and_then of_json (option_and_then (λ p. json.if_last p.0 p.1) found)
 
@@ -48,4 +44,7 @@ value_reads text value d is shallow made = ap whole (ap (json.value max_depth) i
 -- a line that is read as a value of this shape
 pub shape_asked : (line : List ℕ) (d : Data) (request : Request) → length line ≤ line_limit → IsUtf8 line → read line ≡ Some d → shape_of d ≡ Some request
     → request_of line ≡ judged request
-shape_asked line d request short utf8 reads shaped = rw (asked_short line short, is_utf8-from_IsUtf8 line utf8, reads, shaped) refl
+unfolding request_of
+shape_asked line d request short utf8 reads shaped =
+    let fits : nat_le (length line) line_limit ≡ true = search rules in
+    rw (fits, is_utf8-from_IsUtf8 line utf8, reads, shaped) refl

@@ -11,7 +11,8 @@ use Rattle.json.specs.Tree.{items_tokens}
 use Rattle.serde_json.specs.Data as kept
 use Rattle.serde_json.specs.Read.{of_items}
 use Rattle.versions.specs.Words.{Text, is_name, is_requirement}
-use Rattle.wire.specs.Shapes.{pairs_of}
+use Rattle.wire.specs.Members.{each_of}
+use Rattle.wire.specs.Shapes.{pair_of}
 use Rattle.intake.specs.Needs.{AreNeeds, pair_tokens}
 
 -- ---- a need
@@ -61,6 +62,6 @@ pub pairs_of_json : (ps : List (Text × Text)) → of_items (pairs_json ps) ≡ 
 pairs_of_json [] = refl
 pairs_of_json (p ∷ ps) = rw (pairs_of_json ps) refl
 
-pub pairs_back : (needs : List (Text × Text)) → pairs_of (pairs_data needs) ≡ Some needs
+pub pairs_back : (needs : List (Text × Text)) → each_of pair_of (pairs_data needs) ≡ Some needs
 pairs_back [] = refl
 pairs_back (need ∷ needs) = rw (pairs_back needs) refl

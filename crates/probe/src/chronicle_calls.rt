@@ -91,14 +91,14 @@ fn is_seat(number: u32) -> bool
     1 <= number && number <= SEAT_LIMIT
 }
 
-fn with_first<'a, R: Threads>(
+fn with_first<R: Threads>(
     rt: &R,
     alloc: Global,
-    cells: &'a Row,
+    cells: &Row,
     two: u32,
     three: u32,
     steps: &[Value],
-    first: &mut Seat<'a>,
+    first: &mut Seat,
 ) -> Result<CallResult, Unread>
     requires row { first.old.row ≡ cells.now }
     requires two { (1 ≤ two) × (two ≤ 64) }
@@ -110,14 +110,14 @@ fn with_first<'a, R: Threads>(
     answer
 }
 
-fn with_second<'a, R: Threads>(
+fn with_second<R: Threads>(
     rt: &R,
     alloc: Global,
-    cells: &'a Row,
+    cells: &Row,
     three: u32,
     steps: &[Value],
-    first: &mut Seat<'a>,
-    second: &mut Seat<'a>,
+    first: &mut Seat,
+    second: &mut Seat,
 ) -> Result<CallResult, Unread>
     requires rows { (first.old.row ≡ cells.now) × (second.old.row ≡ cells.now) }
     requires three { (1 ≤ three) × (three ≤ 64) }
@@ -129,7 +129,7 @@ fn with_second<'a, R: Threads>(
 }
 
 /// The last of so many seats.
-fn last_of<'a>(alloc: Global, cells: &'a Row, count: u32) -> Result<Seat<'a>, Unread>
+fn last_of(alloc: Global, cells: &Row, count: u32) -> Result<Seat, Unread>
     requires { (1 ≤ count) × (count ≤ 64) }
     ensures { IfOk result (λ s. s.row ≡ cells.now) }
 {
@@ -142,13 +142,13 @@ fn last_of<'a>(alloc: Global, cells: &'a Row, count: u32) -> Result<Seat<'a>, Un
     }
 }
 
-fn all_told<'a, R: Threads>(
+fn all_told<R: Threads>(
     rt: &R,
     alloc: Global,
     steps: &[Value],
-    first: &mut Seat<'a>,
-    second: &mut Seat<'a>,
-    third: &mut Seat<'a>,
+    first: &mut Seat,
+    second: &mut Seat,
+    third: &mut Seat,
 ) -> Result<CallResult, Unread>
     requires { (first.old.row ≡ second.old.row) × (first.old.row ≡ third.old.row) }
 {
@@ -174,14 +174,14 @@ fn all_told<'a, R: Threads>(
     }
 }
 
-fn take_all<'a, R: Threads>(
+fn take_all<R: Threads>(
     rt: &R,
     alloc: Global,
     steps: &[Value],
-    first: &mut Seat<'a>,
-    second: &mut Seat<'a>,
-    third: &mut Seat<'a>,
-    mark: &mut Mark<'a>,
+    first: &mut Seat,
+    second: &mut Seat,
+    third: &mut Seat,
+    mark: &mut Mark,
     answers: &mut Vec<CallResult>,
 ) -> Result<(), Unread>
     requires rows { (first.old.row ≡ second.old.row) × (first.old.row ≡ third.old.row) }
@@ -195,14 +195,14 @@ fn take_all<'a, R: Threads>(
 }
 
 /// A step of all seats: `["agree"]`, of each two, or `["across"]`; or a step of one: `[1,"place"]` or `[3,"publish",{..}]`.
-fn take<'a, R: Threads>(
+fn take<R: Threads>(
     rt: &R,
     alloc: Global,
     step: &[Value],
-    first: &mut Seat<'a>,
-    second: &mut Seat<'a>,
-    third: &mut Seat<'a>,
-    mark: &mut Mark<'a>,
+    first: &mut Seat,
+    second: &mut Seat,
+    third: &mut Seat,
+    mark: &mut Mark,
 ) -> Result<CallResult, Unread>
     requires rows { (first.old.row ≡ second.old.row) × (first.old.row ≡ third.old.row) }
     requires mark { mark.old.row ≡ first.old.row }
@@ -219,13 +219,13 @@ fn take<'a, R: Threads>(
     }
 }
 
-fn of_all<'a, R: Threads>(
+fn of_all<R: Threads>(
     rt: &R,
     name: &str,
-    first: &mut Seat<'a>,
-    second: &mut Seat<'a>,
-    third: &mut Seat<'a>,
-    mark: &mut Mark<'a>,
+    first: &mut Seat,
+    second: &mut Seat,
+    third: &mut Seat,
+    mark: &mut Mark,
 ) -> Result<CallResult, Unread>
     requires rows { (first.old.row ≡ second.old.row) × (first.old.row ≡ third.old.row) }
     requires mark { mark.old.row ≡ first.old.row }
@@ -243,12 +243,12 @@ fn of_all<'a, R: Threads>(
 
 /// In threads of their own the first seat tells its place, the second meets the mark, and the third looks. The answer is the
 /// place of the first, and the third's behind its look.
-fn across<'a, R: Threads>(
+fn across<R: Threads>(
     rt: &R,
-    first: &mut Seat<'a>,
-    second: &mut Seat<'a>,
-    third: &mut Seat<'a>,
-    mark: &mut Mark<'a>,
+    first: &mut Seat,
+    second: &mut Seat,
+    third: &mut Seat,
+    mark: &mut Mark,
 ) -> Result<CallResult, Unread>
     requires { mark.old.row ≡ second.old.row }
     ensures first { first.new.row ≡ first.old.row }
@@ -267,21 +267,13 @@ fn across<'a, R: Threads>(
 }
 
 /// In threads of their own a seat tells its place, and another one looks.
-fn look_beside<'a, R: Threads>(
-    rt: &R,
-    told: &Seat<'a>,
-    looking: &mut Seat<'a>,
-) -> (Result<(), Refusal>, usize)
+fn look_beside<R: Threads>(rt: &R, told: &Seat, looking: &mut Seat) -> (Result<(), Refusal>, usize)
     ensures { looking.new.row ≡ looking.old.row }
 {
     join_mut(rt, &mut || looking.catch_up(), &mut || told.place())
 }
 
-fn agreed<'a>(
-    first: &mut Seat<'a>,
-    second: &mut Seat<'a>,
-    third: &mut Seat<'a>,
-) -> Result<CallResult, Unread>
+fn agreed(first: &mut Seat, second: &mut Seat, third: &mut Seat) -> Result<CallResult, Unread>
     requires { (first.old.row ≡ second.old.row) × (first.old.row ≡ third.old.row) }
     ensures first { first.new.row ≡ first.old.row }
     ensures second { second.new.row ≡ second.old.row }
@@ -293,15 +285,15 @@ fn agreed<'a>(
     Ok(CallResult::None)
 }
 
-fn of_seat<'a>(
+fn of_seat(
     alloc: Global,
     number: &Value,
     name: &Value,
     given: &Value,
-    first: &mut Seat<'a>,
-    second: &mut Seat<'a>,
-    third: &mut Seat<'a>,
-    mark: &mut Mark<'a>,
+    first: &mut Seat,
+    second: &mut Seat,
+    third: &mut Seat,
+    mark: &mut Mark,
 ) -> Result<CallResult, Unread>
     requires rows { (first.old.row ≡ second.old.row) × (first.old.row ≡ third.old.row) }
     requires mark { mark.old.row ≡ first.old.row }

@@ -18,12 +18,12 @@ use std::alloc::{AllocError, Global};
 use store::Store;
 use versions::Refusal;
 
-pub fn seat_step<'a>(
+pub fn seat_step(
     alloc: Global,
     name: &str,
     given: &Value,
-    seat: &mut Seat<'a>,
-    mark: &mut Mark<'a>,
+    seat: &mut Seat,
+    mark: &mut Mark,
 ) -> Result<CallResult, Unread>
     requires { mark.old.row ≡ seat.old.row }
     ensures seat { seat.new.row ≡ seat.old.row }
@@ -42,13 +42,15 @@ pub fn seat_step<'a>(
 
 // ---- what a seat stands for
 
-fn about(alloc: Global, name: &str, seat: &Seat<'_>) -> Result<CallResult, Unread> {
+fn about(alloc: Global, name: &str, seat: &mut Seat) -> Result<CallResult, Unread>
+    ensures { seat.new.row ≡ seat.old.row }
+{
     match name {
         "place" => Ok(CallResult::Number(seat.place())),
         "revision" => Ok(CallResult::Number(seat.revision() as usize)),
         "number" => Ok(CallResult::Number(seat.number() as usize)),
         "registry" => Ok(CallResult::Number(seat.registry().revision() as usize)),
-        "journal" => journal_told(alloc, seat.journal()),
+        "journal" => journal_told(alloc, seat.mark()?),
         "stored" => shown(alloc, seat.store()),
         _ => Err(Unread::Row),
     }
@@ -71,11 +73,12 @@ fn named(alloc: Global, store: &Store, pkg: u32) -> Result<Vec<&Learnt>, AllocEr
 }
 
 /// Of each entry the number of the seat that made it, its serial, and its item.
-fn journal_told(alloc: Global, journal: &[&Entry]) -> Result<CallResult, Unread> {
+fn journal_told(alloc: Global, mut seen: Mark) -> Result<CallResult, Unread> {
+    let journal = seen.entries(alloc)?;
     let mut is_first = true;
     let mut text = AnswerText::new(alloc);
     text.put("[");
-    for entry in journal {
+    for entry in journal.as_slice() {
         text.put_between(is_first);
         put_entry(&mut text, *entry);
         is_first = false;
@@ -96,12 +99,12 @@ fn put_entry(text: &mut AnswerText, entry: &Entry) {
 
 // ---- marking, meeting and entering
 
-fn changed_told<'a>(
+fn changed_told(
     alloc: Global,
     name: &str,
     given: &Value,
-    seat: &mut Seat<'a>,
-    mark: &mut Mark<'a>,
+    seat: &mut Seat,
+    mark: &mut Mark,
 ) -> Result<CallResult, Unread>
     requires { mark.old.row ≡ seat.old.row }
     ensures seat { seat.new.row ≡ seat.old.row }
@@ -123,12 +126,12 @@ fn refusal_told(why: Unread) -> Result<CallResult, Unread> {
 }
 
 /// Takes a step, and once more where memory is refused: then it has done nothing.
-fn changed_again<'a>(
+fn changed_again(
     alloc: Global,
     name: &str,
     given: &Value,
-    seat: &mut Seat<'a>,
-    mark: &mut Mark<'a>,
+    seat: &mut Seat,
+    mark: &mut Mark,
 ) -> Result<CallResult, Unread>
     requires { mark.old.row ≡ seat.old.row }
     ensures seat { seat.new.row ≡ seat.old.row }
@@ -142,12 +145,12 @@ fn changed_again<'a>(
 
 /// Takes a step whose answer takes no memory. What a seat had seen is kept until the next mark is made; the answer of
 /// that is its place.
-fn changed<'a>(
+fn changed(
     alloc: Global,
     name: &str,
     given: &Value,
-    seat: &mut Seat<'a>,
-    mark: &mut Mark<'a>,
+    seat: &mut Seat,
+    mark: &mut Mark,
 ) -> Result<CallResult, Unread>
     requires { mark.old.row ≡ seat.old.row }
     ensures seat { seat.new.row ≡ seat.old.row }
@@ -174,7 +177,7 @@ fn entered_told(
     alloc: Global,
     name: &str,
     given: &Value,
-    seat: &mut Seat<'_>,
+    seat: &mut Seat,
 ) -> Result<CallResult, Unread>
     ensures { seat.new.row ≡ seat.old.row }
 {
@@ -182,7 +185,7 @@ fn entered_told(
     Ok(CallResult::Places(stamp.place, stamp.revision as usize))
 }
 
-fn entered(alloc: Global, name: &str, given: &Value, seat: &mut Seat<'_>) -> Result<Stamp, Unread>
+fn entered(alloc: Global, name: &str, given: &Value, seat: &mut Seat) -> Result<Stamp, Unread>
     ensures { seat.new.row ≡ seat.old.row }
 {
     match name {
@@ -193,14 +196,14 @@ fn entered(alloc: Global, name: &str, given: &Value, seat: &mut Seat<'_>) -> Res
     }
 }
 
-fn learn_lines(alloc: Global, given: &Value, seat: &mut Seat<'_>) -> Result<Stamp, Unread>
+fn learn_lines(alloc: Global, given: &Value, seat: &mut Seat) -> Result<Stamp, Unread>
     ensures { seat.new.row ≡ seat.old.row }
 {
     let learnt = learnt_at(alloc, given)?;
     Ok(seat.learn(learnt)?)
 }
 
-fn commanded(alloc: Global, given: &Value, seat: &mut Seat<'_>) -> Result<Stamp, Unread>
+fn commanded(alloc: Global, given: &Value, seat: &mut Seat) -> Result<Stamp, Unread>
     ensures { seat.new.row ≡ seat.old.row }
 {
     let kind = text_at(given, "op")?;
@@ -208,7 +211,7 @@ fn commanded(alloc: Global, given: &Value, seat: &mut Seat<'_>) -> Result<Stamp,
     Ok(seat.enter(command)?)
 }
 
-fn published(alloc: Global, given: &Value, seat: &mut Seat<'_>) -> Result<Stamp, Unread>
+fn published(alloc: Global, given: &Value, seat: &mut Seat) -> Result<Stamp, Unread>
     ensures { seat.new.row ≡ seat.old.row }
 {
     let (name, version, needs) = three(alloc, given, "name", "version", "needs")?;
@@ -216,7 +219,7 @@ fn published(alloc: Global, given: &Value, seat: &mut Seat<'_>) -> Result<Stamp,
 }
 
 /// Yanks a version, or takes its yank back.
-fn yanked(alloc: Global, kind: &str, given: &Value, seat: &mut Seat<'_>) -> Result<Stamp, Unread>
+fn yanked(alloc: Global, kind: &str, given: &Value, seat: &mut Seat) -> Result<Stamp, Unread>
     ensures { seat.new.row ≡ seat.old.row }
 {
     let (name, version) = both(alloc, given, "name", "version")?;
@@ -234,7 +237,7 @@ fn resolve(
     alloc: Global,
     learns: bool,
     given: &Value,
-    seat: &mut Seat<'_>,
+    seat: &mut Seat,
 ) -> Result<CallResult, Unread>
     ensures { seat.new.row ≡ seat.old.row }
 {
@@ -248,7 +251,7 @@ fn resolve(
 fn resolve_told(
     alloc: Global,
     learns: bool,
-    seat: &mut Seat<'_>,
+    seat: &mut Seat,
     request: &Request,
     options: Options,
 ) -> Result<CallResult, Unread>
@@ -269,7 +272,7 @@ fn outcome_told(
     learns: bool,
     stamp: Stamp,
     outcome: &Outcome,
-    seat: &mut Seat<'_>,
+    seat: &mut Seat,
 ) -> Result<CallResult, Unread>
     ensures { seat.new.row ≡ seat.old.row }
 {
@@ -284,7 +287,7 @@ fn learnt_told(
     alloc: Global,
     stamp: Stamp,
     outcome: &Outcome,
-    seat: &mut Seat<'_>,
+    seat: &mut Seat,
 ) -> Result<CallResult, Unread>
     ensures { seat.new.row ≡ seat.old.row }
 {
@@ -292,7 +295,7 @@ fn learnt_told(
     stored_told(alloc, stamp, outcome, seat.store().len())
 }
 
-fn learn_all(alloc: Global, offered: &[Learnt], seat: &mut Seat<'_>) -> Result<(), Unread>
+fn learn_all(alloc: Global, offered: &[Learnt], seat: &mut Seat) -> Result<(), Unread>
     ensures { seat.new.row ≡ seat.old.row }
 {
     for learnt in offered {
@@ -301,7 +304,7 @@ fn learn_all(alloc: Global, offered: &[Learnt], seat: &mut Seat<'_>) -> Result<(
     Ok(())
 }
 
-fn learn_one(learnt: Learnt, seat: &mut Seat<'_>) -> Result<(), Unread>
+fn learn_one(learnt: Learnt, seat: &mut Seat) -> Result<(), Unread>
     ensures { seat.new.row ≡ seat.old.row }
 {
     match seat.learn(learnt) {
@@ -312,7 +315,7 @@ fn learn_one(learnt: Learnt, seat: &mut Seat<'_>) -> Result<(), Unread>
 
 /// Resolves, and once more where memory is refused.
 fn resolved_again(
-    seat: &mut Seat<'_>,
+    seat: &mut Seat,
     request: &Request,
     options: Options,
 ) -> Result<(Stamp, Outcome), Refusal>
@@ -325,7 +328,7 @@ fn resolved_again(
 }
 
 fn resolved(
-    seat: &mut Seat<'_>,
+    seat: &mut Seat,
     request: &Request,
     options: Options,
 ) -> Result<(Stamp, Outcome), Refusal>

@@ -5,7 +5,7 @@
 
 ghost use Rattle.std.specs.Prelude.{◌≡◌, All};
 
-use chronicle::{Mark, Row, Seat, Stamp, seats};
+use chronicle::{Entry, Mark, Row, Seat, Stamp, seats};
 use explain::write_lines;
 use journals::{all_have_names, save_journal};
 use registry::Request;
@@ -48,13 +48,7 @@ fn seated(rt: &impl Threads, alloc: Global, row: &Row, text: &mut Vec<u8>) -> Do
     ending(work(rt, alloc, row, both.as_mut_slice(), text), both)
 }
 
-fn work<'a>(
-    rt: &impl Threads,
-    alloc: Global,
-    row: &'a Row,
-    both: &mut [Seat<'a>],
-    text: &mut Vec<u8>,
-) -> Done
+fn work(rt: &impl Threads, alloc: Global, row: &Row, both: &mut [Seat], text: &mut Vec<u8>) -> Done
     requires { All (λ s. s.row ≡ row.now) both.old }
 {
     let Some((one, others)) = both.split_first_mut() else {
@@ -68,7 +62,7 @@ fn work<'a>(
     save(alloc, two, text)
 }
 
-fn publish(alloc: Global, one: &mut Seat<'_>) -> Done
+fn publish(alloc: Global, one: &mut Seat) -> Done
     ensures { one.new.row ≡ one.old.row }
 {
     enter(alloc, one, LOG)?;
@@ -79,7 +73,7 @@ fn publish(alloc: Global, one: &mut Seat<'_>) -> Done
 }
 
 // Enters a command.
-fn enter(alloc: Global, seat: &mut Seat<'_>, line: &str) -> Result<Stamp, Refusal>
+fn enter(alloc: Global, seat: &mut Seat, line: &str) -> Result<Stamp, Refusal>
     ensures { seat.new.row ≡ seat.old.row }
 {
     match read_request(alloc, line.as_bytes())? {
@@ -89,25 +83,19 @@ fn enter(alloc: Global, seat: &mut Seat<'_>, line: &str) -> Result<Stamp, Refusa
 }
 
 // One hands two a mark of what it is to have seen before it builds on that.
-fn ask<'a>(
-    rt: &impl Threads,
-    alloc: Global,
-    one: &mut Seat<'a>,
-    two: &mut Seat<'a>,
-    text: &mut Vec<u8>,
-) -> Done
+fn ask(rt: &impl Threads, alloc: Global, one: &mut Seat, two: &mut Seat, text: &mut Vec<u8>) -> Done
     requires { one.old.row ≡ two.old.row }
 {
     let mut seen = one.mark()?;
     ending(meet(rt, alloc, one, two, &mut seen, text), seen)
 }
 
-fn meet<'a>(
+fn meet(
     rt: &impl Threads,
     alloc: Global,
-    one: &mut Seat<'a>,
-    two: &mut Seat<'a>,
-    seen: &mut Mark<'a>,
+    one: &mut Seat,
+    two: &mut Seat,
+    seen: &mut Mark,
     text: &mut Vec<u8>,
 ) -> Done
     requires { seen.old.row ≡ two.old.row }
@@ -120,14 +108,14 @@ fn meet<'a>(
 }
 
 // Answers a request: with a lock list, or with why there is none.
-fn tell(alloc: Global, seat: &mut Seat<'_>, line: &str, text: &mut Vec<u8>) -> Done {
+fn tell(alloc: Global, seat: &mut Seat, line: &str, text: &mut Vec<u8>) -> Done {
     match read_request(alloc, line.as_bytes())? {
         Asked::Resolve { request, .. } => ending(answer(alloc, seat, &request, text), request),
         other => ending(Err(Refusal::BadLine), other),
     }
 }
 
-fn answer(alloc: Global, seat: &mut Seat<'_>, request: &Request, text: &mut Vec<u8>) -> Done {
+fn answer(alloc: Global, seat: &mut Seat, request: &Request, text: &mut Vec<u8>) -> Done {
     let (_stamp, mut outcome) = seat.resolve(request)?;
     let written = match &mut outcome {
         Outcome::Selection(list, _offered) => write_lock(alloc, list, text),
@@ -138,9 +126,19 @@ fn answer(alloc: Global, seat: &mut Seat<'_>, request: &Request, text: &mut Vec<
 }
 
 // Saves what a seat has seen.
-fn save(alloc: Global, seat: &Seat<'_>, text: &mut Vec<u8>) -> Done {
+fn save(alloc: Global, seat: &mut Seat, text: &mut Vec<u8>) -> Done {
+    let mut seen = seat.mark()?;
+    ending(save_seen(alloc, seat, &mut seen, text), seen)
+}
+
+fn save_seen(alloc: Global, seat: &Seat, seen: &mut Mark, text: &mut Vec<u8>) -> Done {
+    let entries = seen.entries(alloc)?;
+    ending(save_entries(alloc, seat, entries.as_slice(), text), entries)
+}
+
+fn save_entries(alloc: Global, seat: &Seat, entries: &[&Entry], text: &mut Vec<u8>) -> Done {
     let mut items = Vec::new(alloc);
-    for entry in seat.journal() {
+    for entry in entries {
         items.push(&entry.item)?;
     }
     if !all_have_names(seat.registry(), items.as_slice()) {

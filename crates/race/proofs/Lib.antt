@@ -1,3 +1,4 @@
 pub mod KeptLemmas
 pub mod RaceLemmas
 pub mod RacingLemmas
+pub mod SeatedLemmas

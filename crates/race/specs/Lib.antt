@@ -1,3 +1,4 @@
 pub mod Racing
 pub mod KeptReply
 pub mod Race
+pub mod Seated

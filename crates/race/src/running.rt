@@ -18,8 +18,8 @@ use versions::Refusal;
 /// What a thread of a race is given: a seat, the file whose lines it answers, and room for a reply a
 /// line.
 #[derive(Drop)]
-pub struct Job<'a> {
-    pub seat: Seat<'a>,
+pub struct Job {
+    pub seat: Seat,
     pub file: Vec<u8>,
     pub replies: Vec<KeptReply>,
     pub alloc: Global,
@@ -27,9 +27,9 @@ pub struct Job<'a> {
 
 /// What it hands back: its replies, and a mark of all that its seat has seen.
 #[derive(Drop)]
-pub struct FileRun<'a> {
+pub struct FileRun {
     pub replies: Vec<KeptReply>,
-    pub mark: Result<Mark<'a>, Refusal>,
+    pub mark: Result<Mark, Refusal>,
 }
 
 /// Makes room for a reply to each line of a file.
@@ -41,11 +41,11 @@ pub fn room_for(alloc: Global, file: &[u8]) -> Result<Vec<KeptReply>, AllocError
 }
 
 /// Answers the lines of a file, in order, with the seat.
-pub fn run_file<'a>(job: Job<'a>, settings: Settings) -> FileRun<'a>
+pub fn run_file(job: Job, settings: Settings) -> FileRun
     requires empty { job.replies.items ≡ [] }
     requires room { length (lines_of job.file.items) ≤ vec_capacity job.replies }
-    ensures row { IfOk result.mark (λ m. m.row ≡ job.entry.seat.row) }
-    ensures answered { IfOk result.mark (AnsweredTo settings job.entry.seat job.entry.file.items result.replies.items) }
+    ensures row { IfOk result.mark (λ m. m.row ≡ job.seat.row) }
+    ensures answered { IfOk result.mark (AnsweredTo settings job.seat job.file.items result.replies.items) }
 {
     let Job {
         seat,
@@ -65,7 +65,7 @@ pub fn run_file<'a>(job: Job<'a>, settings: Settings) -> FileRun<'a>
 /// Answers lines one after another, and keeps the replies.
 fn answer_lines(
     alloc: Global,
-    seat: &mut Racer<'_>,
+    seat: &mut Racer,
     file: &[u8],
     replies: &mut Vec<KeptReply>,
     settings: Settings,
@@ -86,9 +86,9 @@ fn answer_lines(
 }
 
 /// Answers a line, and keeps the reply.
-fn answer(
+pub fn answer(
     alloc: Global,
-    seat: &mut Racer<'_>,
+    seat: &mut Racer,
     intake: &mut RequestReader,
     line: &[u8],
     settings: Settings,

@@ -1,19 +1,17 @@
 -- Requests that wait together, and the replies to them.
-use Rattle.std.proofs.Common.{◌≡◌, ℕ, ◌+◌, ◌<◌, ◌≤◌, List, [], ◌∷◌, ◌++◌, length, take, drop, get_or, map, refl, sym, ap, subst, ◌∙◌, inl, inr, arith, length-append, Option, None, Some, Result, Ok, Err}
+use Rattle.std.proofs.Common.{◌≡◌, ℕ, ◌+◌, ◌<◌, ◌≤◌, List, [], ◌∷◌, ◌++◌, length, take, drop, get_or, refl, sym, ap, subst, ◌∙◌, inl, inr, arith, length-append, Option, None, Some, Result, Ok, Err}
 use Rattle.std.proofs.KnownBytes.{Appends-nil}
-use Rattle.std.proofs.lemmas.List.{append-nil, append_assoc, drop-append-le, drop_all, drop_more, take-append-drop}
+use Rattle.std.proofs.lemmas.List.{append-nil, append_assoc, drop-append-le, drop_more, take-append-drop}
 use Rattle.std.proofs.lemmas.List.Concat.{flat_map-append}
 use Rattle.std.specs.Prelude.{if◌then◌else◌, is_none, MatchResult, OnOk}
 use Rattle.versions.specs.declared.refusal.Refusal.{Refusal}
-use Rattle.versions.specs.declared.refusal.Refusal.TheVariants.{NoMemory}
 use Rattle.registry.specs.Registry.{Packages}
 use Rattle.derivations.specs.Lines.{Line}
 use Rattle.book.specs.Items.{Book, after, book_of, packages_of, refusal, revision_of, stepped}
 use Rattle.book.specs.Laws.{ReplayGrows}
 use Rattle.book.specs.declared.item.Item.{Item}
 use Rattle.book.specs.declared.item.Item.TheVariants as item
-use Rattle.lines.specs.Texts.{Puts, Writes}
-use Rattle.std.specs.Io.KnownBytes.{Appends}
+use Rattle.lines.specs.Texts.{Puts}
 use Rattle.replies.specs.Putting.{IsCut, IsPut, PutsAddUp}
 use Rattle.replies.specs.Replies.{Body, Reply, refused, replies_text, reply_text}
 use Rattle.wire.specs.Requests.{request_of}
@@ -25,11 +23,7 @@ use Rattle.answers.specs.Outcomes.{TellsFound}
 use Rattle.answers.specs.Told.{reply_from}
 use Rattle.solver.specs.Outcomes.{MayStop}
 use Rattle.session.specs.Session.{session_ways}
-use Rattle.session.proofs.ServeLemmas.{replies_text-more}
-
--- what was written before, and more
-pub appends_behind : (front held more written : List ℕ) → Appends (Some held) (Some more) written → Appends (Some (front ++ held)) (Some (front ++ more)) written
-appends_behind front held more written is = ap (λ (l : List ℕ). front ++ l) is ∙ sym (append_assoc front held written)
+use Rattle.session.proofs.TextLemmas.{replies_text-more}
 
 -- ---- what is asked
 
@@ -87,15 +81,6 @@ module _ {S : Type 0} (w : Ways S) where
   replied_lines settings laws (line ∷ lines) (request ∷ requests) old new (reply ∷ replies) (is, are) (mid, answers, rest) =
       (mid, laws.asked settings line (request_in request) old reply mid is answers, replied_lines settings laws lines requests mid new replies are rest)
 
--- each request may be told that memory is wanting
-wanting : List Item → List Question → List Reply
-wanting here requests = map (λ request. reply_at session_ways here (refused NoMemory)) requests
-
-all_wanting : (here : List Item) (requests : List Question) → AreReplied session_ways requests here (wanting here requests) here
-unfolding wanting
-all_wanting here [] = refl
-all_wanting here (request ∷ requests) = (here, inl (refl, (NoMemory, inl refl, refl)), all_wanting here requests)
-
 -- ---- replies before what is learnt of them
 
 learns_some : (offered : List (List Line)) (old new : List Item) → LearnsOf offered old new → LearnsSome session_ways old new
@@ -131,10 +116,10 @@ module _ (laws : RepliesAddUp session_ways) (one : Question) (items : List Item)
     is,
   )
 
-told_nothing : (items : List Item) → MayBeTold [] items [] []
+pub told_nothing : (items : List Item) → MayBeTold [] items [] []
 told_nothing items here new packages revision is = is
 
-told_both : ReplayGrows → (requests others : List Question) (items : List Item) (replies more : List Reply) (offered after : List (List Line)) → MayBeTold requests items replies offered
+pub told_both : ReplayGrows → (requests others : List Question) (items : List Item) (replies more : List Reply) (offered after : List (List Line)) → MayBeTold requests items replies offered
     → MayBeTold others items more after → MayBeTold (requests ++ others) items (replies ++ more) (offered ++ after)
 told_both grows requests others items replies more [] after one two here new packages revision learns =
     replied_append session_ways requests others replies more here here new (one here here packages revision refl) (two here new packages revision learns)
@@ -148,19 +133,7 @@ pub told_learnt : (requests : List Question) (items : List Item) (replies : List
     → AreReplied session_ways requests items replies new
 told_learnt requests items replies offered new told learns = told items new refl refl learns
 
--- and where nothing is
-pub told_replied : (requests : List Question) (items : List Item) (replies : List Reply) (offered : List (List Line)) → MayBeTold requests items replies offered → AreReplied session_ways requests items replies items
-told_replied requests items replies offered told = told items items refl refl (learns_nothing offered items)
-
 -- ---- replies that are put
-
--- replies to these requests were put
-abbrev pub HasPut : Option (List ℕ) → Option (List ℕ) → List ℕ → List ℕ → List Question → List Item → List Item → Type 0
-HasPut a b p q requests old new = (replies : List Reply) × AreReplied session_ways requests old replies new × IsPut a b p q (replies_text replies)
-
--- or a beginning of them
-abbrev pub HasCut : Option (List ℕ) → Option (List ℕ) → List ℕ → List Question → List Item → List Item → Type 0
-HasCut a b p requests old new = (replies : List Reply) × AreReplied session_ways requests old replies new × IsCut a b p (replies_text replies)
 
 -- the first of these requests were told replies
 abbrev pub HasTold : Option (List ℕ) → Option (List ℕ) → List ℕ → List ℕ → List Question → List Question → List Item → List (List Line) → List (List Line) → Type 0
@@ -206,40 +179,6 @@ module _ {E : Type 0} (r : Result Unit E) (a b : Option (List ℕ)) (p q : List 
     told = told;
     puts = subst (λ (text : List ℕ). MatchResult r (λ _. IsPut a b p q text) (λ _. IsCut a b p text)) (sym (replies_text-more [] reply)) (one_put r a b p q (reply_text reply) puts);
   }
-
-sent_put : {E : Type 0} (r : Result Unit E) (a b : Option (List ℕ)) (p q : List ℕ) → Writes a b r p → q ≡ [] → MatchResult r (λ _. IsPut a b p q []) (λ _. IsCut a b p [])
-sent_put (Ok u) a b p q (written, appends, is) none = (written, appends, ap (λ (l : List ℕ). written ++ l) none ∙ append-nil written ∙ is ∙ sym (append-nil p))
-sent_put (Err e) a b p q (written, appends, begins) none = (written, appends, (begins.0, begins.1 ∙ sym (append-nil p)))
-
--- what waits is written
-pub tells_sends : {E : Type 0} (r : Result Unit E) (a b : Option (List ℕ)) (p q : List ℕ) (requests : List Question) (items : List Item) (offered : List (List Line)) → Writes a b r p → q ≡ []
-    → Tells a b p q r requests requests items offered offered
-tells_sends r a b p q requests items offered writes none = record {
-  first = [];
-  others = requests;
-  replies = [];
-  more = [];
-  split = refl;
-  rest = on_ok r refl;
-  offered = sym (append-nil offered);
-  told = told_nothing items;
-  puts = sent_put r a b p q writes none;
-}
-
--- nothing is put
-pub tells_puts_none : {E : Type 0} (r : Result Unit E) (a b : Option (List ℕ)) (p q : List ℕ) (requests : List Question) (items : List Item) (offered : List (List Line)) → Puts a b p q r []
-    → Tells a b p q r requests requests items offered offered
-tells_puts_none r a b p q requests items offered puts = record {
-  first = [];
-  others = requests;
-  replies = [];
-  more = [];
-  split = refl;
-  rest = on_ok r refl;
-  offered = sym (append-nil offered);
-  told = told_nothing items;
-  puts = one_put r a b p q [] puts;
-}
 
 both_put : PutsAddUp → {A E : Type 0} (r : Result A E) (a b c : Option (List ℕ)) (p q s : List ℕ) (replies more : List Reply) → IsPut a b p q (replies_text replies)
     → MatchResult r (λ _. IsPut b c q s (replies_text more)) (λ _. IsCut b c q (replies_text more)) → MatchResult r (λ _. IsPut a c p s (replies_text (replies ++ more))) (λ _. IsCut a c p (replies_text (replies ++ more)))
@@ -292,13 +231,6 @@ tells_err e f a b p q q' requests left left' items before after t = record {
   puts = t.puts;
 }
 
--- what waits was written, behind what was told
-pub tells_sent : PutsAddUp → ReplayGrows → (E : Type 0) (v : Unit {0}) (a b c : Option (List ℕ)) (p q s : List ℕ) (requests left : List Question) (items : List Item) (before after : List (List Line))
-    → HasTold a b p q requests left items before after → Writes {E = E} b c (Ok v) q → s ≡ [] → HasTold a c p s requests left items before after
-tells_sent laws grows E v a b c p q s requests left items before after told writes none =
-    tells_ok v tt a c p s requests left left items before after refl
-    (tells_then laws grows {A = Unit} {E = E} (Ok v) a b c p q s requests left left items before after after told (tells_sends {E = E} (Ok v) b c q s left items after writes none))
-
 behind_rest : {A E : Type 0} (r : Result A E) (left others behind : List Question) → OnOk r (left ≡ others) → OnOk r (left ++ behind ≡ others ++ behind)
 behind_rest (Ok v) left others behind is = ap (λ (l : List Question). l ++ behind) is
 behind_rest (Err e) left others behind is = tt
@@ -325,10 +257,6 @@ tells_next {A} {E} r a b p q asked k one items before after within here t =
     subst (λ (l : List Question). Tells {A = A} {E = E} a b p q r l (drop (k + 1) asked) items before after) (sym (next_of asked k one within here))
     (tells_before r a b p q (one ∷ []) [] (drop (k + 1) asked) items before after t)
 
--- none is left behind the last
-pub drop_requests : (asked : List Question) (k : ℕ) → length asked ≤ k → drop k asked ≡ []
-drop_requests asked k end = drop_all k asked end
-
 -- the first ones, of all
 pub tells_first : {A E : Type 0} (r : Result A E) (a b : Option (List ℕ)) (p q : List ℕ) (requests : List Question) (most count : ℕ) (items : List Item) (before after : List (List Line)) → count ≤ length (take most requests)
     → Tells a b p q r (take most requests) (drop count (take most requests)) items before after → Tells a b p q r requests (drop count requests) items before after
@@ -337,10 +265,6 @@ tells_first {A} {E} r a b p q requests most count items before after within t =
     subst (λ (l : List Question). Tells {A = A} {E = E} a b p q r l (drop count l) items before after) all
     (subst (λ (l : List Question). Tells {A = A} {E = E} a b p q r (take most requests ++ drop most requests) l items before after) (sym (drop-append-le count (take most requests) (drop most requests) within))
     (tells_before r a b p q (take most requests) (drop count (take most requests)) (drop most requests) items before after t))
-
-pub drop_past : {A : Type 0} (xs ys : List A) → drop (length xs) (xs ++ ys) ≡ ys
-drop_past [] ys = refl
-drop_past (x ∷ xs) ys = drop_past xs ys
 
 pub part_length : (part requests : List Question) (most : ℕ) → part ≡ take most requests → length part ≡ length (take most requests)
 part_length part requests most is = ap length is
@@ -358,68 +282,6 @@ pub tells_part : {A E : Type 0} (r : Result A E) (a b : Option (List ℕ)) (p q 
 tells_part {A} {E} r a b p q part requests most count items before after is within t =
     tells_first r a b p q requests most count items before after (subst (λ (n : ℕ). count ≤ n) (part_length part requests most is) within)
     (subst (λ (l : List Question). Tells {A = A} {E = E} a b p q r l (drop count l) items before after) is t)
-
--- all of a part
-pub tells_whole : {A E : Type 0} (r : Result A E) (a b : Option (List ℕ)) (p q : List ℕ) (part requests : List Question) (most count : ℕ) (items : List Item) (before after : List (List Line))
-    → part ≡ take most requests → count ≡ length part → Tells a b p q r part [] items before after → Tells a b p q r requests (drop count requests) items before after
-tells_whole {A} {E} r a b p q part requests most count items before after is all t =
-    let whole : take most requests ++ drop most requests ≡ requests = take-append-drop most requests in
-    let rest : drop count requests ≡ drop most requests
-    = ap (λ (n : ℕ). drop n requests) (all ∙ part_length part requests most is) ∙ ap (drop (length (take most requests))) (sym whole) ∙ drop_past (take most requests) (drop most requests) in
-    subst (λ (l : List Question). Tells {A = A} {E = E} a b p q r requests l items before after) (sym rest)
-    (subst (λ (l : List Question). Tells {A = A} {E = E} a b p q r l (drop most requests) items before after) (ap (λ (l : List Question). l ++ drop most requests) is ∙ whole)
-    (tells_before r a b p q part [] (drop most requests) items before after t))
-
--- the same where what went out before is told too
-pub tells_behind : {A E : Type 0} (r : Result A E) (front held held' : List ℕ) (p q : List ℕ) (requests left : List Question) (items : List Item) (before after : List (List Line))
-    → Tells (Some held) (Some held') p q r requests left items before after → Tells (Some (front ++ held)) (Some (front ++ held')) p q r requests left items before after
-tells_behind r front held held' p q requests left items before after t = record {
-  first = t.first;
-  others = t.others;
-  replies = t.replies;
-  more = t.more;
-  split = t.split;
-  rest = t.rest;
-  offered = t.offered;
-  told = t.told;
-  puts = puts_behind r t.replies t.puts;
-}
-  where
-    puts_behind : {A E : Type 0} (r : Result A E) (replies : List Reply) → MatchResult r (λ _. IsPut (Some held) (Some held') p q (replies_text replies)) (λ _. IsCut (Some held) (Some held') p (replies_text replies))
-        → MatchResult r (λ _. IsPut (Some (front ++ held)) (Some (front ++ held')) p q (replies_text replies)) (λ _. IsCut (Some (front ++ held)) (Some (front ++ held')) p (replies_text replies))
-    puts_behind (Ok v) replies (written, appends, is) = (written, appends_behind front held held' written appends, is)
-    puts_behind (Err e) replies (written, appends, is) = (written, appends_behind front held held' written appends, is)
-
--- all were told
-pub tells_all : {A E : Type 0} (v : A) (a b : Option (List ℕ)) (p q : List ℕ) (requests left : List Question) (items new : List Item) (offered : List (List Line)) → left ≡ []
-    → Tells {A = A} {E = E} a b p q (Ok v) requests left items [] offered → LearnsOf offered items new → HasPut a b p q requests items new
-tells_all v a b p q requests left items new offered none t learns =
-    let whole : requests ≡ t.first = t.split ∙ ap (λ (l : List Question). t.first ++ l) (sym t.rest ∙ none) ∙ append-nil t.first in (
-      t.replies,
-      subst (λ (l : List Question). AreReplied session_ways l items t.replies new) (sym whole)
-          (told_learnt t.first items t.replies t.more new t.told (subst (λ (l : List (List Line)). LearnsOf l items new) t.offered learns)),
-      t.puts,
-    )
-
--- or a put failed, whatever was to follow
-pub tells_fails : PutsAddUp → {A E : Type 0} (e : E) (a b : Option (List ℕ)) (p q : List ℕ) (requests left : List Question) (items : List Item) (before after : List (List Line))
-    → Tells {A = A} {E = E} a b p q (Err e) requests left items before after → HasCut a b p requests items items
-unfolding wanting
-tells_fails laws e a b p q requests left items before after t =
-    let rest = wanting items t.others in (
-      t.replies ++ rest,
-      subst (λ (l : List Question). AreReplied session_ways l items (t.replies ++ rest) items) (sym t.split)
-          (replied_append session_ways t.first t.others t.replies rest items items items (told_replied t.first items t.replies t.more t.told) (all_wanting items t.others)),
-      subst (IsCut a b p) (sym (flat_map-append reply_text t.replies rest)) (laws.first_cut a b p (replies_text t.replies) (replies_text rest) t.puts),
-    )
-
--- replies that were put, and one more
-pub puts_last : PutsAddUp → {E : Type 0} (r : Result Unit E) (a b c : Option (List ℕ)) (p q s : List ℕ) (replies : List Reply) (reply : Reply) → IsPut a b p q (replies_text replies)
-    → Puts b c q s r (reply_text reply) → Puts a c p s r (replies_text (replies ++ reply ∷ []))
-puts_last laws (Ok u) a b c p q s replies reply one two =
-    subst (IsPut a c p s) (sym (replies_text-more replies reply)) (laws.both a b c p q s (replies_text replies) (reply_text reply) one two)
-puts_last laws (Err e) a b c p q s replies reply one two =
-    subst (IsCut a c p) (sym (replies_text-more replies reply)) (laws.second_cut a b c p q (replies_text replies) (reply_text reply) one two)
 
 -- a line at fault is at fault within every budget
 pub refuses_within : (budget : Option ℕ) (line : List ℕ) (e : Refusal) → request_of line ≡ Err e → asked_within budget line ≡ Err e

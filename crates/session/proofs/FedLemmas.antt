@@ -27,7 +27,7 @@ use Rattle.session.specs.Session.{session_ways}
 use Rattle.session.proofs.BatchLemmas.{refuses_within}
 use Rattle.session.proofs.RestLemmas.{front_longer}
 use Rattle.session.proofs.StepLemmas.{session_line, session_more, session_none}
-use Rattle.session.proofs.ServeLemmas.{no_feeds-append, replies_text-more, with_feeds-append}
+use Rattle.session.proofs.TextLemmas.{no_feeds-append, replies_text-more, with_feeds-append}
 
 -- ---- some line is too long, and each buffer stands for some text
 

@@ -1,5 +1,5 @@
 pub mod BatchLemmas
-pub mod ServeLemmas
+pub mod TextLemmas
 pub mod ServedLemmas
 pub mod LoadedLemmas
 pub mod SessionLemmas
@@ -14,7 +14,8 @@ pub mod GrowthLemmas
 pub mod LogLemmas
 pub mod EventLemmas
 pub mod RestLemmas
-pub mod DurableLemmas
+pub mod OutletLemmas
+pub mod KeptLemmas
 pub mod EndLemmas
 pub mod CommitLemmas
 pub mod SavableLemmas
@@ -22,5 +23,4 @@ pub mod CrashLemmas
 pub mod CountLemmas
 pub mod GenerationLemmas
 pub mod LineLemmas
-mod TellingLemmas
 pub mod AgreeLemmas

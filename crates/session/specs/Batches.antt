@@ -3,13 +3,12 @@ use Rattle.std.specs.Prelude.{◌≡◌, ℕ, List, [], ◌∷◌, ◌++◌, OnO
 use Rattle.std.specs.List.{AllZip}
 use Rattle.registry.specs.Requests.{Wanted}
 use Rattle.derivations.specs.Lines.{Line}
-use Rattle.lines.specs.Texts.{Puts}
 use Rattle.wire.specs.Shapes.{Request, resolve}
 use Rattle.replies.specs.Putting.{IsCut, IsPut}
 use Rattle.replies.specs.Replies.{Reply, replies_text}
 use Rattle.book.specs.Items.{packages_of, revision_of}
 use Rattle.book.specs.declared.item.Item.{Item}
-use Rattle.answers.specs.Lawful.{AreLawfulWithin, LearnsSome, MayAnswer, Ways, asked_within}
+use Rattle.answers.specs.Lawful.{LearnsSome, MayAnswer, Ways, asked_within}
 use Rattle.answers.specs.declared.settings.Settings.{Settings}
 use Rattle.session.specs.Session.{session_ways}
 use Rattle.oracle.specs.declared.options.Options.{Options}
@@ -63,25 +62,3 @@ pub record Tells {A E : Type 0} (written_before written_after : Option (List ℕ
   pub offered : offered_after ≡ offered_before ++ more
   pub told : MayBeTold first items replies more
   pub puts : MatchResult r (λ _. IsPut written_before written_after before after (replies_text replies)) (λ _. IsCut written_before written_after before (replies_text replies))
-
--- ---- lines that are taken
-
--- The first of these requests were replied to, and what was put are the texts of the replies. The others are left.
-pub record Leaves {E : Type 0} (written_before written_after : Option (List ℕ)) (before after : List ℕ) (r : Result Unit E) (requests : List Question)
-    (old new : List Item) (left : List Question) : Type 0 where
-  pub first : List Question
-  pub replies : List Reply
-  pub split : requests ≡ first ++ left
-  pub replied : AreReplied session_ways first old replies new
-  pub puts : Puts written_before written_after before after r (replies_text replies)
-
--- Of these lines the first are answered, and what was put are the texts of their lawful replies. The others wait as what they ask.
-pub record Takes {E : Type 0} (settings : Settings) (written_before written_after : Option (List ℕ)) (before after : List ℕ) (r : Result Unit E)
-    (lines : List (List ℕ)) (old new : List Item) (batch : List Question) : Type 0 where
-  pub answered : List (List ℕ)
-  pub others : List (List ℕ)
-  pub replies : List Reply
-  pub split : lines ≡ answered ++ others
-  pub session : AreLawfulWithin settings session_ways answered old replies new
-  pub waits : OnOk r (AreAsked settings others batch)
-  pub puts : Puts written_before written_after before after r (replies_text replies)

@@ -18,15 +18,10 @@ use Rattle.answers.specs.Lawful.{IsLawfulWithin}
 use Rattle.answers.specs.declared.settings.Settings.{Settings}
 use Rattle.session.specs.Committing.{FrontOf}
 use Rattle.session.specs.Durable.{IsBacked, IsLog}
-use Rattle.session.specs.Events.{EachMoment, Event, IsDurable, handed, replied, taken}
+use Rattle.session.specs.Events.{EachMoment, Event, IsDurable, Mark, handed, replied, taken}
 use Rattle.session.specs.Session.{IsSession, session_ways}
 
 -- ---- between two calls
-
--- a place in a journal: behind so many items, and so many lines of them
-pub record Mark : Type 0 where
-  pub items : ℕ
-  pub lines : ℕ
 
 pub record FedSession : Type 0 where
   -- what was accepted

@@ -1,22 +1,17 @@
 //! Requests of neighbouring lines, which are answered together by several threads.
-ghost use Rattle.std.specs.Prelude.{◌≡◌, ◌↔◌, ◌∷◌, ◌++◌, ◌<◌, ◌≤◌, [], List, drop, length, take, IfOk, IsTrue, OnOk, vec_capacity};
-ghost use Rattle.session.specs.Batches.{AreReplied, Leaves, Tells};
-ghost use Rattle.session.specs.Committing.{TellsOn};
-ghost use Rattle.session.specs.Putting.{PutsReplies};
-ghost use Rattle.session.specs.Session.{session_ways};
+ghost use Rattle.std.specs.Prelude.{◌≡◌, ◌↔◌, ◌∷◌, ◌++◌, ◌<◌, ◌≤◌, [], List, drop, length, take, IfOk, IsTrue, vec_capacity};
+ghost use Rattle.session.specs.Batches.{Tells};
+ghost use Rattle.session.specs.Committing.{TellsOn, outlet};
 
-use crate::committed::Committed;
-use crate::devices::Devices;
-use crate::putting::{learn_offered, send_if, try_put};
+use crate::buffers::Outgoing;
+use crate::keeper::Keeper;
+use crate::putting::try_put;
 use crate::session_state::SessionState;
 use crate::telling::tell_in_order;
-use crate::telling_kept::tell_kept_in_order;
-use book::journals_grow;
 use derivations::Learnt;
 use lines::Outbox;
 use pool::{RequestWithOptions, THREAD};
 use registry::Request;
-use replies::puts_add_up;
 use solver::{Options, Workspace};
 use std::alloc::{AllocError, Global};
 use std::io;
@@ -63,24 +58,6 @@ impl Batch {
         })
     }
 
-    /// Replies to the requests if no more may wait behind them.
-    pub fn make_room<H: Threads + Wait + Sync, W: Write>(
-        &mut self,
-        rt: &H,
-        alloc: Global,
-        served: &mut SessionState,
-        outbox: &mut Outbox,
-        writer: &mut W,
-    ) -> io::Result<()>
-        ensures left { Leaves (W.contents writer.old) (W.contents writer.new) outbox.old outbox.new result self.old served.old served.new self.new }
-        ensures room { length self.new < BATCH_LIMIT }
-    {
-        if self.asked.len() < BATCH_LIMIT {
-            return Ok(());
-        }
-        self.reply(rt, alloc, served, outbox, writer, false)
-    }
-
     /// Has a request wait behind the others, to be answered so.
     pub fn push(&mut self, request: Request, options: Options)
         requires { length self.old < BATCH_LIMIT }
@@ -103,87 +80,26 @@ impl Batch {
         self.asked.is_empty()
     }
 
-    /// Replies to the requests, in order. Then none waits. Before a search that may be long, the replies before it are
-    /// written. It is learnt what the answers offer once all replies are put, and where no line waits behind the
-    /// requests, once they are written: what a client waits for is the answer alone.
-    pub fn reply<H: Threads + Wait + Sync, W: Write>(
-        &mut self,
-        rt: &H,
-        alloc: Global,
-        served: &mut SessionState,
-        outbox: &mut Outbox,
-        writer: &mut W,
-        none_behind: bool,
-    ) -> io::Result<()>
-        ensures replied { PutsReplies (λ replies. AreReplied session_ways self.old served.old replies served.new)
-            (W.contents writer.old) (W.contents writer.new) outbox.old outbox.new result }
-        ensures none { self.new ≡ [] }
-    {
-        puts_add_up();
-        let mut offered = Vec::new(alloc);
-        match self.tell(rt, alloc, served, outbox, writer, none_behind, &mut offered) {
-            Ok(()) => {
-                learn_offered(served, offered);
-                Ok(())
-            }
-            Err(e) => {
-                drop(offered);
-                self.asked.clear();
-                self.is_tried = false;
-                Err(e)
-            }
-        }
-    }
-
-    /// Replies to the requests, and learns nothing yet.
-    fn tell<H: Threads + Wait + Sync, W: Write>(
-        &mut self,
-        rt: &H,
-        alloc: Global,
-        served: &SessionState,
-        outbox: &mut Outbox,
-        writer: &mut W,
-        none_behind: bool,
-        offered: &mut Vec<Learnt>,
-    ) -> io::Result<()>
-        ensures told { Tells (W.contents writer.old) (W.contents writer.new) outbox.old outbox.new result
-            self.old self.new served.now offered.old.items offered.new.items }
-        ensures none { OnOk result (self.new ≡ []) }
-    {
-        puts_add_up();
-        journals_grow();
-        self.reply_first(alloc, served, outbox, writer, BATCH_LIMIT, true, offered)?;
-        for _ in rt.forever() {
-            if self.is_empty() {
-                return send_if(none_behind, outbox, writer);
-            }
-            outbox.send(writer)?;
-            self.reply_next(rt, alloc, served, outbox, writer, offered)?;
-            self.try_reply(alloc, served, outbox, writer, BATCH_LIMIT, offered)?;
-        }
-        unreachable!()
-    }
-
     /// Replies to the first requests, so many at most, until one asks for a longer search, or where several threads may
     /// answer, until as much was done as starting one takes. Answers whether the next one, if any, may be replied to so.
     pub fn try_reply<W: Write>(
         &mut self,
         alloc: Global,
-        served: &SessionState,
+        state: &SessionState,
         outbox: &mut Outbox,
         writer: &mut W,
         most: usize,
         offered: &mut Vec<Learnt>,
     ) -> io::Result<bool>
         ensures { Tells (W.contents writer.old) (W.contents writer.new) outbox.old outbox.new result
-            self.old self.new served.now offered.old.items offered.new.items }
+            self.old self.new state.now offered.old.items offered.new.items }
     {
         let mut count = 0;
         let mut is_tried = false;
         let effort = if self.workers < 2 { usize::MAX } else { THREAD };
         let put = try_put(
             alloc,
-            served,
+            state,
             outbox,
             writer,
             first_of(self.asked.as_slice(), most),
@@ -202,7 +118,7 @@ impl Batch {
     pub fn reply_first<W: Write>(
         &mut self,
         alloc: Global,
-        served: &SessionState,
+        state: &SessionState,
         outbox: &mut Outbox,
         writer: &mut W,
         most: usize,
@@ -210,26 +126,29 @@ impl Batch {
         offered: &mut Vec<Learnt>,
     ) -> io::Result<bool>
         ensures { Tells (W.contents writer.old) (W.contents writer.new) outbox.old outbox.new result
-            self.old self.new served.now offered.old.items offered.new.items }
+            self.old self.new state.now offered.old.items offered.new.items }
     {
         if is_free && self.asked.len() == 1 {
             return Ok(false);
         }
-        self.try_reply(alloc, served, outbox, writer, most, offered)
+        self.try_reply(alloc, state, outbox, writer, most, offered)
     }
 
     /// Replies to the first request, or where several threads may answer, to all that wait, however long the searches are.
-    pub fn reply_next<H: Threads + Wait + Sync, W: Write>(
+    /// All replies go out before an answer is waited for.
+    pub fn reply_next<H: Threads + Wait + Sync, W: Write, K: Keeper<W>>(
         &mut self,
         rt: &H,
         alloc: Global,
-        served: &SessionState,
-        outbox: &mut Outbox,
+        keeper: &mut K,
         writer: &mut W,
+        state: &SessionState,
+        outgoing: &mut Outgoing,
         offered: &mut Vec<Learnt>,
     ) -> io::Result<()>
-        ensures { Tells (W.contents writer.old) (W.contents writer.new) outbox.old outbox.new result
-            self.old self.new served.now offered.old.items offered.new.items }
+        ensures { TellsOn result (outlet K.has_file (K.done keeper.old) (W.contents writer.old) outgoing.old.committed)
+            (outlet K.has_file (K.done keeper.new) (W.contents writer.new) outgoing.new.committed) state.now outgoing.old.outbox outgoing.new.outbox
+            self.old self.new offered.old.items offered.new.items }
     {
         let most = if self.workers < 2 { 1 } else { BATCH_LIMIT };
         let asked = first_of(self.asked.as_slice(), most);
@@ -238,36 +157,7 @@ impl Batch {
         let workers = self.workers;
         let workspace = &mut self.workspace;
         let put = tell_in_order(
-            rt, alloc, served, outbox, writer, asked, is_tried, workers, workspace, offered,
-        );
-        self.leave_out(count, false);
-        put
-    }
-
-    /// As [`Batch::reply_next`], in a session whose journal is kept in a file. All replies go out before an answer is
-    /// waited for.
-    pub fn keep_next<H: Threads + Wait + Sync, D: Devices>(
-        &mut self,
-        rt: &H,
-        alloc: Global,
-        devices: &mut D,
-        served: &SessionState,
-        outbox: &mut Outbox,
-        held: &mut Vec<u8>,
-        at: &mut Committed,
-        offered: &mut Vec<Learnt>,
-    ) -> io::Result<()>
-        ensures { TellsOn result (D.seen devices.old) (D.seen devices.new) served.now outbox.old outbox.new
-            self.old self.new offered.old.items offered.new.items held.old.items held.new.items at.old at.new }
-    {
-        let most = if self.workers < 2 { 1 } else { BATCH_LIMIT };
-        let asked = first_of(self.asked.as_slice(), most);
-        let count = asked.len();
-        let is_tried = self.is_tried;
-        let workers = self.workers;
-        let workspace = &mut self.workspace;
-        let put = tell_kept_in_order(
-            rt, alloc, devices, served, outbox, held, at, asked, is_tried, workers, workspace,
+            rt, alloc, keeper, writer, state, outgoing, asked, is_tried, workers, workspace,
             offered,
         );
         self.leave_out(count, false);

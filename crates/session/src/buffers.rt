@@ -3,6 +3,7 @@ ghost use Rattle.std.specs.Prelude.{◌≡◌, [], IfOk};
 ghost use Rattle.lines.specs.Unread.{StandsFor};
 
 use crate::batch::Batch;
+use crate::committed::Committed;
 use intake::RequestReader;
 use lines::{LineBuffer, Outbox};
 use std::alloc::{AllocError, Global};
@@ -12,21 +13,32 @@ use std::alloc::{AllocError, Global};
 pub struct Buffers {
     pub batch: Batch,
     pub lines: LineBuffer,
-    pub outbox: Outbox,
+    pub outgoing: Outgoing,
     pub intake: RequestReader,
 }
 
+/// Replies that wait, and how far the items are committed on which replies rest.
+#[derive(Drop)]
+pub struct Outgoing {
+    pub outbox: Outbox,
+    pub committed: Committed,
+}
+
 impl Buffers {
-    /// Nothing was read, and nothing waits.
-    pub(crate) fn new(alloc: Global, workers: usize) -> Result<Buffers, AllocError>
+    /// Nothing was read, nothing waits, and so many items are committed, each with a line.
+    pub(crate) fn new(alloc: Global, workers: usize, count: usize) -> Result<Buffers, AllocError>
         ensures fresh { IfOk result (λ buffers. StandsFor buffers.lines []) }
         ensures none { IfOk result (λ buffers. buffers.batch ≡ []) }
-        ensures sent { IfOk result (λ buffers. buffers.outbox ≡ []) }
+        ensures sent { IfOk result (λ buffers. buffers.outgoing.outbox ≡ []) }
+        ensures committed { IfOk result (λ buffers. buffers.outgoing.committed ≡ record { items = count; lines = count }) }
     {
         Ok(Buffers {
             batch: Batch::new(alloc, workers)?,
             lines: LineBuffer::new(alloc)?,
-            outbox: Outbox::new(alloc)?,
+            outgoing: Outgoing {
+                outbox: Outbox::new(alloc)?,
+                committed: Committed::all(count),
+            },
             intake: RequestReader::new(alloc),
         })
     }

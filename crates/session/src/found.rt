@@ -1,28 +1,21 @@
-//! Lines that were found: each is replied to, or waits to be answered with its neighbours.
-ghost use Rattle.std.specs.Prelude.{◌∷◌, ◌++◌, ℕ, List, []};
+//! Lines that were found: what each asks, and the reply to it.
+ghost use Rattle.std.specs.Prelude.{ℕ, List};
 ghost use Rattle.lines.specs.Unread.{IsFound};
 ghost use Rattle.answers.specs.Answering.{IsReadWithin};
-ghost use Rattle.session.specs.Batches.{AreAsked, Takes};
 ghost use Rattle.answers.specs.Lawful.{IsLawfulWithin};
 ghost use Rattle.answers.specs.declared.settings.Settings.{Settings};
 ghost use Rattle.session.specs.Putting.{PutsReply};
 ghost use Rattle.session.specs.Session.{session_ways};
 
-use crate::batch::Batch;
 use crate::session_state::SessionState;
 use answers::{
-    Answer, Backend, Settings, answer_read, lawful_replies_add_up, learn_all, put_listing,
-    put_reply, send_told, within,
+    Answer, Backend, Settings, answer_read, learn_all, put_listing, put_reply, send_told, within,
 };
 use intake::RequestReader;
 use lines::{LineBuffer, Next, Outbox};
-use replies::puts_add_up;
-use solver::Options;
 use std::alloc::Global;
 use std::io;
 use std::io::Write;
-use std::sync::Wait;
-use std::thread::Threads;
 use versions::Refusal;
 use wire::Asked;
 
@@ -42,62 +35,6 @@ pub fn read_found(
         Next::Line => within(intake.read(alloc, lines.line()), settings),
         Next::TooLong => Err(Refusal::BadLine),
         Next::More => unreachable!(),
-    }
-}
-
-/// Has a line wait that asks to resolve. Before a line of another kind, and before one for which there is no room, those
-/// that wait are replied to.
-pub fn take<H: Threads + Wait + Sync, W: Write>(
-    rt: &H,
-    alloc: Global,
-    served: &mut SessionState,
-    batch: &mut Batch,
-    outbox: &mut Outbox,
-    writer: &mut W,
-    read: Result<Asked, Refusal>,
-) -> io::Result<()>
-    ensures { (settings : Settings) (waiting : List (List ℕ)) (line : List ℕ) → AreAsked settings waiting batch.old → IsReadWithin settings read line
-        → Takes settings (W.contents writer.old) (W.contents writer.new) outbox.old outbox.new result (waiting ++ line ∷ []) served.old served.new batch.new }
-{
-    lawful_replies_add_up::<SessionState>();
-    match read {
-        Ok(
-            Asked::Resolve {
-                request,
-                explain,
-                budget,
-            },
-        ) => {
-            batch.make_room(rt, alloc, served, outbox, writer)?;
-            batch.push(request, Options { budget, explain });
-            Ok(())
-        }
-        Ok(asked) => reply_behind(rt, alloc, served, batch, outbox, writer, Ok(asked)),
-        Err(fault) => reply_behind(rt, alloc, served, batch, outbox, writer, Err(fault)),
-    }
-}
-
-/// Replies to a line of which this was read, behind those that wait.
-fn reply_behind<H: Threads + Wait + Sync, W: Write>(
-    rt: &H,
-    alloc: Global,
-    served: &mut SessionState,
-    batch: &mut Batch,
-    outbox: &mut Outbox,
-    writer: &mut W,
-    read: Result<Asked, Refusal>,
-) -> io::Result<()>
-    ensures { (settings : Settings) (waiting : List (List ℕ)) (line : List ℕ) → AreAsked settings waiting batch.old → IsReadWithin settings read line
-        → Takes settings (W.contents writer.old) (W.contents writer.new) outbox.old outbox.new result (waiting ++ line ∷ []) served.old served.new batch.new }
-{
-    puts_add_up();
-    lawful_replies_add_up::<SessionState>();
-    match batch.reply(rt, alloc, served, outbox, writer, false) {
-        Ok(()) => reply_to(alloc, served, outbox, writer, read),
-        Err(e) => {
-            drop(read);
-            Err(e)
-        }
     }
 }
 

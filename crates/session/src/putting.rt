@@ -1,7 +1,6 @@
 //! Replies to requests of neighbouring lines that were answered, and what their answers offer to be learnt.
 ghost use Rattle.std.specs.Prelude.{◌≡◌, ◌∷◌, ◌++◌, ◌≤◌, [], List, drop, length, IfErr, IfOk, IfSome};
 ghost use Rattle.book.specs.Items.{packages_of};
-ghost use Rattle.lines.specs.Texts.{Puts};
 ghost use Rattle.pool.specs.Answering.{IsAnswerTo};
 ghost use Rattle.solver.specs.Outcomes.{MayStop};
 ghost use Rattle.replies.specs.Replied.{body_of};
@@ -22,16 +21,6 @@ use std::alloc::Global;
 use std::io;
 use std::io::Write;
 use versions::Refusal;
-
-/// Writes what waits where that is asked for.
-pub(crate) fn send_if<W: Write>(asked: bool, outbox: &mut Outbox, writer: &mut W) -> io::Result<()>
-    ensures { Puts (W.contents writer.old) (W.contents writer.new) outbox.old outbox.new result [] }
-{
-    if !asked {
-        return Ok(());
-    }
-    outbox.send(writer)
-}
 
 /// Puts the replies to the first requests for which few conflicts do, with this effort at most, and counts them. Answers
 /// whether the next one may be answered so, and tells whether that was tried and left open.

@@ -5,7 +5,7 @@ use Rattle.std.specs.Option.{option_and_then, option_zip}
 use Rattle.std.specs.Str.{IsUtf8, is_utf8}
 use Rattle.std.proofs.lemmas.Str.{IsUtf8-from_is_utf8, is_utf8-from_IsUtf8}
 use Rattle.serde_json.specs.Data.{Data}
-use Rattle.serde_json.specs.Find.{as_bool, as_str, get_item}
+use Rattle.serde_json.specs.Find.{as_array, as_bool, as_str, get_item}
 use Rattle.serde_json.specs.Read.{read}
 use Rattle.serde_json.specs.Events.{items_len}
 use Rattle.serde_json.specs.View.{items_view, view}
@@ -13,17 +13,17 @@ use Rattle.serde_json.proofs.Views.{get_item_within, items_len-items_view}
 use Rattle.serde_json.specs.declared.value.Value.{Value}
 use Rattle.versions.specs.declared.refusal.Refusal.TheVariants.{BadLine}
 use Rattle.versions.specs.Words.{Text}
-use Rattle.wire.specs.Members.{has_member, member_count, text_at}
-use Rattle.wire.specs.NamedShapes.{cause_in, causes_at, causes_of, derivation_at, line_in, name_at, ordinals_at, ordinals_in, premise_in, term_of, term_of_items, terms_at, whose_at, whose_in}
+use Rattle.wire.specs.Members.{each_of, has_member, member, member_count, member_or}
+use Rattle.wire.specs.NamedShapes.{cause_in, causes_of, derivation_in, line_in, name_in, ordinals_in, premise_in, term_in, term_of, term_of_items, whose_in}
 use Rattle.by_name.specs.NamedLines.{NamedCause, NamedLine, NamedPremise}
 use Rattle.registry.specs.Requests.{Wanted}
 use Rattle.registry.specs.Step.{Publish}
 use Rattle.terms.specs.declared.term.Term.{Term}
-use Rattle.wire.specs.Shapes.{budget_in, check, checking_in, command, explain_in, lock_in, listing, listing_in, pair_of_items, pairs_at, publication_in, resolution_in, resolution_with, shape_by, shape_of}
+use Rattle.wire.specs.Shapes.{budget_of, check, checking_in, command, listing, pair_of_items, pairs_in, publication_in, resolution_in, resolve, shape_by, shape_of}
 use Rattle.lines.specs.Unread.{line_limit}
-use Rattle.wire.specs.Requests.{request_in, request_of, request_of_text}
+use Rattle.wire.specs.Requests.{judged_shape, request_of}
 use Rattle.wire.specs.Learn.{judged_learn, learn_in, learn_of}
-use Rattle.wire.specs.Locks.{lock_in as lock_list_in, lock_of, lock_of_text}
+use Rattle.wire.specs.Locks.{judged_lines, lock_of}
 use Rattle.wire.specs.declared.request.lock.TheConstants.{LOCK_BYTES}
 
 -- a line that is too long
@@ -31,23 +31,15 @@ pub request_of-long : (line : List ℕ) → line_limit < length line → request
 unfolding request_of
 request_of-long line long = let over : nat_le (length line) line_limit ≡ false = search rules in rw over refl
 
--- and one that is not
-pub request_of-short : (line : List ℕ) → length line ≤ line_limit → request_of line ≡ request_of_text line
+bad_by : (line : List ℕ) (fits utf8 : Bool) → nat_le (length line) line_limit ≡ fits → is_utf8 line ≡ utf8 → (IsUtf8 line → read line ≡ None) → request_of line ≡ Err BadLine
 unfolding request_of
-request_of-short line short = let fits : nat_le (length line) line_limit ≡ true = search rules in rw fits refl
-
-bad_text : (line : List ℕ) (b : Bool) → is_utf8 line ≡ b → (IsUtf8 line → read line ≡ None) → request_of_text line ≡ Err BadLine
-bad_text line false is none = rw is refl
-bad_text line true is none = rw (is, none (IsUtf8-from_is_utf8 line is)) refl
-
-bad_by : (line : List ℕ) (b : Bool) → nat_le (length line) line_limit ≡ b → (IsUtf8 line → read line ≡ None) → request_of line ≡ Err BadLine
-unfolding request_of
-bad_by line false is none = rw is refl
-bad_by line true is none = rw is (bad_text line _ refl none)
+bad_by line false utf8 long is none = rw long refl
+bad_by line true false short is none = rw (short, is) refl
+bad_by line true true short is none = rw (short, is, none (IsUtf8-from_is_utf8 line is)) refl
 
 -- a line that is no JSON
 pub request_of-bad : (line : List ℕ) → (IsUtf8 line → read line ≡ None) → request_of line ≡ Err BadLine
-request_of-bad line none = bad_by line _ refl none
+request_of-bad line none = bad_by line _ _ refl refl none
 
 -- nothing is read of an array of another length
 pub other_length : {A : Type 0} (n : ℕ) (vs : List Value) (found : Option A) → length vs ≢ n → None ≡ (if items_len (items_view vs) == n then found else None)
@@ -58,8 +50,9 @@ pub other_count : {A : Type 0} (n m : ℕ) (found : Option A) → n ≢ m → No
 other_count n m found other = let no : (n == m) ≡ false = ne_eqb n m other in rw no refl
 
 -- a line that is JSON
-pub request_of-read : (line : List ℕ) (d : Data) → length line ≤ line_limit → IsUtf8 line → read line ≡ Some d → request_of line ≡ request_in d
-request_of-read line d short text is = rw (request_of-short line short, is_utf8-from_IsUtf8 line text, is) refl
+pub request_of-read : (line : List ℕ) (d : Data) → length line ≤ line_limit → IsUtf8 line → read line ≡ Some d → request_of line ≡ judged_shape (shape_of d)
+unfolding request_of
+request_of-read line d short text is = let fits : nat_le (length line) line_limit ≡ true = search rules in rw (fits, is_utf8-from_IsUtf8 line text, is) refl
 
 -- ---- learn lines
 
@@ -82,15 +75,15 @@ pub lock_of-long : (text : List ℕ) → nat_le (length text) LOCK_BYTES ≡ fal
 unfolding lock_of
 lock_of-long text long = rw long refl
 
-no_lock : (text : List ℕ) (b : Bool) → is_utf8 text ≡ b → (IsUtf8 text → read text ≡ None) → lock_of_text text ≡ Err BadLine
-no_lock text false is none = rw is refl
-no_lock text true is none = rw (is, none (IsUtf8-from_is_utf8 text is)) refl
+no_lock : (text : List ℕ) (b : Bool) → nat_le (length text) LOCK_BYTES ≡ true → is_utf8 text ≡ b → (IsUtf8 text → read text ≡ None) → lock_of text ≡ Err BadLine
+unfolding lock_of
+no_lock text false fits is none = rw (fits, is) refl
+no_lock text true fits is none = rw (fits, is, none (IsUtf8-from_is_utf8 text is)) refl
 
 pub lock_of-bad : (text : List ℕ) → nat_le (length text) LOCK_BYTES ≡ true → (IsUtf8 text → read text ≡ None) → lock_of text ≡ Err BadLine
-unfolding lock_of
-lock_of-bad text fits none = rw fits (no_lock text _ refl none)
+lock_of-bad text fits none = no_lock text _ fits refl none
 
-pub lock_of-read : (text : List ℕ) (d : Data) → nat_le (length text) LOCK_BYTES ≡ true → IsUtf8 text → read text ≡ Some d → lock_of text ≡ lock_list_in d
+pub lock_of-read : (text : List ℕ) (d : Data) → nat_le (length text) LOCK_BYTES ≡ true → IsUtf8 text → read text ≡ Some d → lock_of text ≡ judged_lines (pairs_in d)
 unfolding lock_of
 lock_of-read text d fits utf8 is = rw (fits, is_utf8-from_IsUtf8 text utf8, is) refl
 
@@ -103,15 +96,16 @@ wanted_by lock needs = option_and_then (λ lines. option_map (λ found. record {
 -- where the members are counted, what is found of a lock, needs, whether to explain and a budget is asked
 pub resolution_of : (d : Data) (lock needs : Option (List (Text × Text))) (explain : Option Bool) (budget : Option (Option ℕ))
     → member_count d ≡ 2 + has_member (codes "lock") d + has_member (codes "budget") d + has_member (codes "explain") d
-    → lock ≡ lock_in d → needs ≡ pairs_at (codes "needs") d → explain ≡ explain_in d → budget ≡ budget_in d
-    → resolution_with (wanted_by lock needs) explain budget ≡ resolution_in d
+    → lock ≡ member_or pairs_in [] (codes "lock") d → needs ≡ member pairs_in (codes "needs") d
+    → explain ≡ member_or as_bool false (codes "explain") d → budget ≡ member_or budget_of None (codes "budget") d
+    → option_and_then (λ wanted. option_and_then (λ told. option_map (λ most. resolve wanted told most) budget) explain) (wanted_by lock needs) ≡ resolution_in d
 resolution_of d lock needs explain budget counted locked needed told limited =
     let same : (member_count d == 2 + has_member (codes "lock") d + has_member (codes "budget") d + has_member (codes "explain") d) ≡ true = search rules in
     rw (same, ← locked, ← needed, ← told, ← limited) refl
 
 -- where the members are counted, what is found of a lock, needs and a derivation is to be checked
 pub checking_of : (d : Data) (lock needs : Option (List (Text × Text))) (lines : Option (List NamedLine)) → member_count d ≡ 3 + has_member (codes "lock") d
-    → lock ≡ lock_in d → needs ≡ pairs_at (codes "needs") d → lines ≡ derivation_at (codes "derivation") d
+    → lock ≡ member_or pairs_in [] (codes "lock") d → needs ≡ member pairs_in (codes "needs") d → lines ≡ member derivation_in (codes "derivation") d
     → option_and_then (λ wanted. option_map (λ found. check wanted found) lines) (wanted_by lock needs) ≡ checking_in d
 checking_of d lock needs lines counted locked needed derived =
     let same : (member_count d == 3 + has_member (codes "lock") d) ≡ true = search rules in
@@ -120,15 +114,15 @@ checking_of d lock needs lines counted locked needed derived =
 -- ---- what a line is by its `op`
 
 -- a line whose `op` is this word
-pub shape_said : (d : Data) (op word : Text) → Some op ≡ text_at (codes "op") d → op ≡ word → shape_by word d ≡ shape_of d
+pub shape_said : (d : Data) (op word : Text) → Some op ≡ member as_str (codes "op") d → op ≡ word → shape_by word d ≡ shape_of d
 shape_said d op word is same = ap (λ (o : Option Text). option_and_then (λ (said : Text). shape_by said d) o) (ap Some (sym same) ∙ is)
 
 -- a line without one
-pub shape_unsaid : (d : Data) → None ≡ text_at (codes "op") d → None ≡ shape_of d
+pub shape_unsaid : (d : Data) → None ≡ member as_str (codes "op") d → None ≡ shape_of d
 shape_unsaid d is = ap (λ (o : Option Text). option_and_then (λ (said : Text). shape_by said d) o) is
 
 -- a list line has its `op` alone
-pub listing_of : (d : Data) → member_count d ≡ 1 → Some listing ≡ listing_in d
+pub listing_of : (d : Data) → member_count d ≡ 1 → Some listing ≡ shape_by (codes "list") d
 listing_of d counted = let same : (member_count d == 1) ≡ true = search rules in rw same refl
 
 -- ---- arrays of so many values
@@ -182,7 +176,8 @@ module _ (vs : List Value) (v : Value) (len : length vs ≡ 3) (at_v : v ≡ get
 
 -- what is found of a line's causes, its conclusion and its pivot makes it
 pub line_of : (d : Data) (causes : Option (NamedCause × NamedCause)) (conclusion : Option (List (Option Text × Term))) (pivot : Option (Option Text)) → member_count d ≡ 3
-    → causes ≡ causes_at (codes "causes") d → conclusion ≡ terms_at (codes "conclusion") d → pivot ≡ whose_at (codes "pivot") d
+    → causes ≡ option_and_then causes_of (member as_array (codes "causes") d) → conclusion ≡ option_and_then (each_of term_in) (member as_array (codes "conclusion") d)
+    → pivot ≡ option_and_then whose_in (member as_str (codes "pivot") d)
     → ◌≡◌ {A = Option NamedLine} (option_and_then (λ two. option_and_then (λ terms. option_map (λ whose. record { conclusion = terms; causes = two; pivot = whose }) pivot) conclusion) causes) (line_in d)
 line_of d causes conclusion pivot counted first second third =
     let same : (member_count d == 3) ≡ true = search rules in
@@ -190,8 +185,8 @@ line_of d causes conclusion pivot counted first second third =
 
 -- what is found of a premise's texts and sets makes it
 pub premise_of : (d : Data) (name need : Option Text) (target : Option (Option Text)) (versions within : Option (List ℕ)) → member_count d ≡ 6
-    → name ≡ name_at (codes "name") d → need ≡ text_at (codes "need") d → target ≡ whose_at (codes "target") d
-    → versions ≡ ordinals_at (codes "versions") d → within ≡ ordinals_at (codes "within") d
+    → name ≡ option_and_then name_in (member as_str (codes "name") d) → need ≡ member as_str (codes "need") d → target ≡ option_and_then whose_in (member as_str (codes "target") d)
+    → versions ≡ member ordinals_in (codes "versions") d → within ≡ member ordinals_in (codes "within") d
     → ◌≡◌ {A = Option NamedPremise} (option_and_then (λ called. option_and_then (λ text. option_and_then (λ whose. option_and_then (λ set. option_map (λ inside.
     record { «package» = called; versions = set; target = whose; need = text; within = inside }) within) versions) target) need) name) (premise_in d)
 premise_of d name need target versions within counted first second third fourth fifth =
@@ -200,7 +195,7 @@ premise_of d name need target versions within counted first second third fourth 
 
 -- what is found of a publication's texts and needs makes it
 pub publication_of : (d : Data) (name version : Option Text) (needs : Option (List (Text × Text))) → member_count d ≡ 4
-    → name ≡ text_at (codes "name") d → version ≡ text_at (codes "version") d → needs ≡ pairs_at (codes "needs") d
+    → name ≡ member as_str (codes "name") d → version ≡ member as_str (codes "version") d → needs ≡ member pairs_in (codes "needs") d
     → option_and_then (λ called. option_and_then (λ text. option_map (λ lines. command (Publish called text lines)) needs) version) name ≡ publication_in d
 publication_of d name version needs counted first second third =
     let same : (member_count d == 4) ≡ true = search rules in

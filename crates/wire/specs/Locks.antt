@@ -1,8 +1,7 @@
 -- Lock lists: the packages of a build with the versions to stay at, as the text of a file.
-use Rattle.std.specs.Prelude.{ℕ, List, [], length, nat_le, if◌then◌else◌, Option, Some, None, Result, Ok, Err}
+use Rattle.std.specs.Prelude.{ℕ, List, [], length, nat_le, ◌&&◌, if◌then◌else◌, Option, Some, None, option_and_then, Result, Ok, Err}
 use Rattle.std.specs.List.{list_all}
 use Rattle.std.specs.Str.{is_utf8}
-use Rattle.serde_json.specs.Data.{Data}
 use Rattle.serde_json.specs.Read.{read}
 use Rattle.versions.specs.Words.{Text, is_name, is_version}
 use Rattle.versions.specs.declared.refusal.Refusal.{Refusal}
@@ -28,17 +27,6 @@ abbrev pub judged_lines : Option (List (Text × Text)) → Result (List (Text ×
 judged_lines None = Err BadLine
 judged_lines (Some lines) = judged_lock lines
 
--- A lock list is an array of pairs of texts, in any order.
-abbrev pub lock_in : Data → Result (List (Text × Text)) Refusal
-lock_in d = judged_lines (pairs_in d)
-
-abbrev pub lock_read : Option Data → Result (List (Text × Text)) Refusal
-lock_read None = Err BadLine
-lock_read (Some d) = lock_in d
-
-abbrev pub lock_of_text : List ℕ → Result (List (Text × Text)) Refusal
-lock_of_text text = if is_utf8 text then lock_read (read text) else Err BadLine
-
--- the lines of a lock list in their order, or the refusal that it is given
+-- A lock list is an array of pairs of texts, in any order: its lines, or the refusal that it is given.
 unfoldable pub lock_of : List ℕ → Result (List (Text × Text)) Refusal
-lock_of text = if nat_le (length text) LOCK_BYTES then lock_of_text text else Err BadLine
+lock_of text = if nat_le (length text) LOCK_BYTES && is_utf8 text then judged_lines (option_and_then pairs_in (read text)) else Err BadLine

@@ -7,7 +7,7 @@ use Rattle.serde_json.specs.Events.{items_len}
 use Rattle.versions.specs.Words.{Text, is_name}
 use Rattle.terms.specs.declared.term.Term.{Term}
 use Rattle.terms.specs.declared.term.Term.TheVariants.{In, NotIn}
-use Rattle.wire.specs.Members.{each_of, member_count, text_at, whole_at, whole_of}
+use Rattle.wire.specs.Members.{each_of, member, member_count, whole_of}
 use Rattle.by_name.specs.NamedLines.{NamedCause, NamedLine, NamedPremise}
 use Rattle.derivations.specs.declared.facts.Cause.TheVariants as cause
 
@@ -22,12 +22,6 @@ abbrev pub whose_in : Text → Option (Option Text)
 whose_in [] = Some None
 whose_in (b ∷ rest) = option_map (λ name. Some name) (name_in (b ∷ rest))
 
-abbrev pub name_at : Text → Data → Option Text
-name_at member d = option_and_then name_in (text_at member d)
-
-abbrev pub whose_at : Text → Data → Option (Option Text)
-whose_at member d = option_and_then whose_in (text_at member d)
-
 -- a number that is at least low
 abbrev pub at_least : ℕ → ℕ → Option ℕ
 at_least low k = if nat_le low k then Some k else None
@@ -39,9 +33,6 @@ ordinals_from low (item d ds) = option_and_then (λ k. option_map (λ ks. k ∷ 
 
 abbrev pub ordinals_in : Data → Option (List ℕ)
 ordinals_in d = option_and_then (ordinals_from 0) (as_array d)
-
-abbrev pub ordinals_at : Text → Data → Option (List ℕ)
-ordinals_at member d = option_and_then ordinals_in (get member d)
 
 -- ---- terms
 
@@ -60,12 +51,6 @@ term_of_items items = if items_len items == 3
 abbrev pub term_in : Data → Option (Option Text × Term)
 term_in d = option_and_then term_of_items (as_array d)
 
-abbrev pub terms_of : Items → Option (List (Option Text × Term))
-terms_of items = each_of term_in items
-
-abbrev pub terms_at : Text → Data → Option (List (Option Text × Term))
-terms_at member d = option_and_then terms_of (option_and_then as_array (get member d))
-
 -- ---- causes
 
 -- A premise has its `fact` and these five members, and no others.
@@ -77,16 +62,17 @@ premise_in d = if member_count d == 6
       target = target;
       need = need;
       within = within;
-    }) (ordinals_at (codes "within") d)) (ordinals_at (codes "versions") d)) (whose_at (codes "target") d)) (text_at (codes "need") d)) (name_at (codes "name") d)
+    }) (member ordinals_in (codes "within") d)) (member ordinals_in (codes "versions") d)) (option_and_then whose_in (member as_str (codes "target") d)))
+    (member as_str (codes "need") d)) (option_and_then name_in (member as_str (codes "name") d))
     else None
 
 abbrev pub barred_in : Data → Option NamedCause
 barred_in d = if member_count d == 3
-    then option_and_then (λ name. option_map (λ versions. cause.NotAllowed name versions) (ordinals_at (codes "versions") d)) (name_at (codes "name") d)
+    then option_and_then (λ name. option_map (λ versions. cause.NotAllowed name versions) (member ordinals_in (codes "versions") d)) (option_and_then name_in (member as_str (codes "name") d))
     else None
 
 abbrev pub need_in : Data → Option NamedCause
-need_in d = if member_count d == 2 then option_map (λ i. cause.Need i) (whole_at (codes "index") d) else None
+need_in d = if member_count d == 2 then option_map (λ i. cause.Need i) (member whole_of (codes "index") d) else None
 
 abbrev pub root_in : Data → Option NamedCause
 root_in d = if member_count d == 1 then Some cause.Root else None
@@ -101,7 +87,7 @@ fact_by fact d =
 
 -- An object without a `line` tells a fact.
 abbrev pub cause_from : Option Data → Data → Option NamedCause
-cause_from None d = option_and_then (λ fact. fact_by fact d) (text_at (codes "fact") d)
+cause_from None d = option_and_then (λ fact. fact_by fact d) (member as_str (codes "fact") d)
 cause_from (Some line) d = if member_count d == 1 then option_map (λ n. cause.Line n) (whole_of line) else None
 
 abbrev pub cause_in : Data → Option NamedCause
@@ -113,9 +99,6 @@ causes_of items = if items_len items == 2
     then option_and_then (λ one. option_map (λ two. (one, two)) (option_and_then cause_in (get_item 1 items))) (option_and_then cause_in (get_item 0 items))
     else None
 
-abbrev pub causes_at : Text → Data → Option (NamedCause × NamedCause)
-causes_at member d = option_and_then causes_of (option_and_then as_array (get member d))
-
 -- ---- lines
 
 -- A line has these three members, and no others.
@@ -125,18 +108,13 @@ line_in d = if member_count d == 3
       conclusion = conclusion;
       causes = causes;
       pivot = pivot;
-    }) (whose_at (codes "pivot") d)) (terms_at (codes "conclusion") d)) (causes_at (codes "causes") d)
+    }) (option_and_then whose_in (member as_str (codes "pivot") d))) (option_and_then (each_of term_in) (member as_array (codes "conclusion") d)))
+    (option_and_then causes_of (member as_array (codes "causes") d))
     else None
-
-abbrev pub lines_of : Items → Option (List NamedLine)
-lines_of items = each_of line_in items
 
 -- a derivation is an array of lines
 abbrev pub derivation_in : Data → Option (List NamedLine)
-derivation_in d = option_and_then lines_of (as_array d)
-
-abbrev pub derivation_at : Text → Data → Option (List NamedLine)
-derivation_at member d = option_and_then derivation_in (get member d)
+derivation_in d = option_and_then (each_of line_in) (as_array d)
 
 -- ---- the requirements that are still to be judged
 

@@ -1,8 +1,7 @@
 -- What a request line asks.
-use Rattle.std.specs.Prelude.{ℕ, Bool, List, [], ◌∷◌, ◌++◌, length, nat_le, if◌then◌else◌, Option, Some, None, Result, Ok, Err, map}
+use Rattle.std.specs.Prelude.{ℕ, Bool, List, [], ◌∷◌, ◌++◌, length, nat_le, ◌&&◌, if◌then◌else◌, Option, Some, None, option_and_then, Result, Ok, Err, map}
 use Rattle.std.specs.List.{list_all}
 use Rattle.std.specs.Str.{is_utf8}
-use Rattle.serde_json.specs.Data.{Data}
 use Rattle.serde_json.specs.Read.{read}
 use Rattle.versions.specs.Words.{Text, is_name, is_version, is_requirement}
 use Rattle.versions.specs.declared.refusal.Refusal.{Refusal}
@@ -80,16 +79,6 @@ abbrev pub judged_shape : Option Request → Result Request Refusal
 judged_shape None = Err BadLine
 judged_shape (Some request) = judged request
 
-abbrev pub request_in : Data → Result Request Refusal
-request_in d = judged_shape (shape_of d)
-
-abbrev pub request_read : Option Data → Result Request Refusal
-request_read None = Err BadLine
-request_read (Some d) = request_in d
-
-abbrev pub request_of_text : List ℕ → Result Request Refusal
-request_of_text line = if is_utf8 line then request_read (read line) else Err BadLine
-
 -- what a line asks, or the refusal that it is given; one that is too long is at fault whatever it says
 unfoldable pub request_of : List ℕ → Result Request Refusal
-request_of line = if nat_le (length line) line_limit then request_of_text line else Err BadLine
+request_of line = if nat_le (length line) line_limit && is_utf8 line then judged_shape (option_and_then shape_of (read line)) else Err BadLine

@@ -1,14 +1,14 @@
 -- The shapes of request lines: which members each has, in JSON.
-use Rattle.std.specs.Prelude.{ℕ, List, [], ◌==◌, ◌+◌, Bool, false, if◌then◌else◌, Option, Some, None, option_map, option_and_then, codes}
+use Rattle.std.specs.Prelude.{ℕ, List, [], ◌==◌, ◌&&◌, ◌+◌, Bool, false, if◌then◌else◌, Option, Some, None, option_map, option_and_then, codes}
 use Rattle.std.specs.Str.{bytes_eq}
 use Rattle.serde_json.specs.Data.{Data, Items}
-use Rattle.serde_json.specs.Find.{get, get_item, as_array, as_bool, as_str}
+use Rattle.serde_json.specs.Find.{get_item, as_array, as_bool, as_str}
 use Rattle.serde_json.specs.Events.{items_len}
 use Rattle.versions.specs.Words.{Text}
 use Rattle.registry.specs.Requests.{Wanted}
 use Rattle.registry.specs.Step.{Change, Publish, Yank, Unyank}
-use Rattle.wire.specs.Members.{each_of, has_member, member_count, text_at, whole_of}
-use Rattle.wire.specs.NamedShapes.{derivation_at}
+use Rattle.wire.specs.Members.{each_of, has_member, member, member_count, member_or, whole_of}
+use Rattle.wire.specs.NamedShapes.{derivation_in}
 use Rattle.by_name.specs.NamedLines.{NamedLine}
 
 -- a request, by its texts
@@ -30,80 +30,44 @@ abbrev pub pair_of : Data → Option (Text × Text)
 pair_of d = option_and_then pair_of_items (as_array d)
 
 -- an array of such pairs
-abbrev pub pairs_of : Items → Option (List (Text × Text))
-pairs_of items = each_of pair_of items
-
 abbrev pub pairs_in : Data → Option (List (Text × Text))
-pairs_in d = option_and_then pairs_of (as_array d)
-
--- the pairs of a member
-abbrev pub pairs_at : Text → Data → Option (List (Text × Text))
-pairs_at name d = option_and_then pairs_in (get name d)
+pairs_in d = option_and_then (each_of pair_of) (as_array d)
 
 -- A publish line has these four members and no others.
 abbrev pub publication_in : Data → Option Request
 publication_in d = if member_count d == 4
     then option_and_then (λ name. option_and_then (λ version. option_map (λ needs. command (Publish name version needs))
-    (pairs_at (codes "needs") d)) (text_at (codes "version") d)) (text_at (codes "name") d)
+    (member pairs_in (codes "needs") d)) (member as_str (codes "version") d)) (member as_str (codes "name") d)
     else None
 
 -- A yank line and an unyank line have these three and no others: the name and the version.
 abbrev pub marking_in : Data → Option (Text × Text)
 marking_in d = if member_count d == 3
-    then option_and_then (λ name. option_map (λ version. (name, version)) (text_at (codes "version") d)) (text_at (codes "name") d)
+    then option_and_then (λ name. option_map (λ version. (name, version)) (member as_str (codes "version") d)) (member as_str (codes "name") d)
     else None
 
--- the lock of a resolve or a check line: its pairs, and no lines where it is left out
-abbrev pub lock_from : Option Data → Option (List (Text × Text))
-lock_from None = Some []
-lock_from (Some d) = pairs_in d
-
-abbrev pub lock_in : Data → Option (List (Text × Text))
-lock_in d = lock_from (get (codes "lock") d)
-
--- the budget of a resolve line, and none where it is left out
-abbrev pub budget_from : Option Data → Option (Option ℕ)
-budget_from None = Some None
-budget_from (Some d) = option_map (λ conflicts. Some conflicts) (whole_of d)
-
-abbrev pub budget_in : Data → Option (Option ℕ)
-budget_in d = budget_from (get (codes "budget") d)
-
--- whether a refusal is to be explained, and not where that is left out
-abbrev pub explain_from : Option Data → Option Bool
-explain_from None = Some false
-explain_from (Some d) = as_bool d
-
-abbrev pub explain_in : Data → Option Bool
-explain_in d = explain_from (get (codes "explain") d)
-
--- what is wanted, with this lock
-abbrev pub wanted_with : Data → Option (List (Text × Text)) → Option Wanted
-wanted_with d found = option_and_then (λ lock. option_map (λ needs. record { needs = needs; lock = lock }) (pairs_at (codes "needs") d)) found
-
--- the needs and the lock of a line
+-- the needs and the lock of a line, which has no lines where it is left out
 abbrev pub wanted_in : Data → Option Wanted
-wanted_in d = wanted_with d (lock_in d)
+wanted_in d = option_and_then (λ lock. option_map (λ needs. record { needs = needs; lock = lock }) (member pairs_in (codes "needs") d)) (member_or pairs_in [] (codes "lock") d)
 
-abbrev pub resolution_with : Option Wanted → Option Bool → Option (Option ℕ) → Option Request
-resolution_with found explained spent = option_and_then (λ wanted. option_and_then (λ explain. option_map (λ budget. resolve wanted explain budget) spent) explained) found
+-- a budget
+abbrev pub budget_of : Data → Option (Option ℕ)
+budget_of d = option_map (λ conflicts. Some conflicts) (whole_of d)
 
 -- A resolve line has its `op` and its needs, may have a lock, a budget and whether to explain, and no others.
 abbrev pub resolution_in : Data → Option Request
 resolution_in d = if member_count d == 2 + has_member (codes "lock") d + has_member (codes "budget") d + has_member (codes "explain") d
-    then resolution_with (wanted_in d) (explain_in d) (budget_in d)
+    then option_and_then (λ wanted. option_and_then (λ explain. option_map (λ budget. resolve wanted explain budget)
+    (member_or budget_of None (codes "budget") d)) (member_or as_bool false (codes "explain") d)) (wanted_in d)
     else None
 
 -- A check line has its `op`, its needs and its derivation, may have a lock, and no others.
 abbrev pub checking_in : Data → Option Request
 checking_in d = if member_count d == 3 + has_member (codes "lock") d
-    then option_and_then (λ wanted. option_map (λ lines. check wanted lines) (derivation_at (codes "derivation") d)) (wanted_in d)
+    then option_and_then (λ wanted. option_map (λ lines. check wanted lines) (member derivation_in (codes "derivation") d)) (wanted_in d)
     else None
 
 -- A list line has its `op` alone.
-abbrev pub listing_in : Data → Option Request
-listing_in d = if member_count d == 1 then Some listing else None
-
 abbrev pub shape_by : Text → Data → Option Request
 shape_by op d =
     if bytes_eq op (codes "publish") then publication_in d
@@ -111,9 +75,9 @@ shape_by op d =
     else (if bytes_eq op (codes "unyank") then option_map (λ p. command (Unyank p.0 p.1)) (marking_in d)
     else (if bytes_eq op (codes "resolve") then resolution_in d
     else (if bytes_eq op (codes "check") then checking_in d
-    else (if bytes_eq op (codes "list") then listing_in d
+    else (if bytes_eq op (codes "list") && member_count d == 1 then Some listing
     else None)))))
 
 -- the request that an object has the shape of
 abbrev pub shape_of : Data → Option Request
-shape_of d = option_and_then (λ op. shape_by op d) (text_at (codes "op") d)
+shape_of d = option_and_then (λ op. shape_by op d) (member as_str (codes "op") d)

@@ -8,7 +8,8 @@ ghost use Rattle.std.specs.Prelude.{ok_or};
 ghost use Rattle.serde_json.specs.View.{view};
 ghost use Rattle.versions.specs.Refusals.{Gives};
 ghost use Rattle.versions.specs.declared.refusal.Refusal.TheVariants.{BadLine};
-ghost use Rattle.wire.specs.Requests.{request_of, request_in};
+ghost use Rattle.wire.specs.Requests.{judged_shape, request_of};
+ghost use Rattle.wire.specs.Shapes.{shape_of};
 ghost use Rattle.wire.specs.Asked.{asked_of};
 
 mod cause_shapes;
@@ -80,7 +81,7 @@ pub fn read_request(alloc: Global, line: &[u8]) -> Result<Asked, Refusal>
 }
 
 fn request_in(alloc: Global, value: &Value) -> Result<Asked, Refusal>
-    ensures { Gives asked_of result (request_in (view value.now)) }
+    ensures { Gives asked_of result (judged_shape (shape_of (view value.now))) }
 {
     match shape_of(value) {
         Some(shape) => judge(alloc, &shape),

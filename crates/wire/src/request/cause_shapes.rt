@@ -1,8 +1,10 @@
 //! The causes of a line, as they stand in it.
-ghost use Rattle.std.specs.Prelude.{◌≡◌, option_map};
+ghost use Rattle.std.specs.Prelude.{◌≡◌, option_and_then, option_map};
+ghost use Rattle.serde_json.specs.Find.{as_array};
 ghost use Rattle.serde_json.specs.View.{items_view, view};
 ghost use Rattle.wire.specs.DerivedShapes.{cause_said, premise_said};
-ghost use Rattle.wire.specs.NamedShapes.{barred_in, cause_in, causes_at, causes_of, fact_by, need_in, premise_in, root_in};
+ghost use Rattle.wire.specs.Members.{member};
+ghost use Rattle.wire.specs.NamedShapes.{barred_in, cause_in, causes_of, fact_by, need_in, premise_in, root_in};
 
 use super::members::{member_count, text_at, whole_at, whole_of};
 use super::ordinals::{OrdinalItems, ordinals_at};
@@ -31,7 +33,7 @@ pub enum CauseShape<'v> {
 
 /// The two causes of a member.
 pub fn causes_at<'v>(value: &'v Value, name: &str) -> Option<(CauseShape<'v>, CauseShape<'v>)>
-    ensures { option_map (λ c. (cause_said c.0, cause_said c.1)) result ≡ causes_at name.now (view value.now) }
+    ensures { option_map (λ c. (cause_said c.0, cause_said c.1)) result ≡ option_and_then causes_of (member as_array name.now (view value.now)) }
 {
     let items = value.get(name)?.as_array()?.as_slice();
     causes_of(items)

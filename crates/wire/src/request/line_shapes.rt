@@ -2,7 +2,8 @@
 ghost use Rattle.std.specs.Prelude.{◌≡◌, ◌<◌, Some, [], is_some, length, option_map, slice_get, true, unwrap_or};
 ghost use Rattle.serde_json.specs.View.{items_view, view};
 ghost use Rattle.wire.specs.DerivedShapes.{line_said};
-ghost use Rattle.wire.specs.NamedShapes.{derivation_at, line_in, lines_of};
+ghost use Rattle.wire.specs.Members.{each_of, member};
+ghost use Rattle.wire.specs.NamedShapes.{derivation_in, line_in};
 
 use super::cause_shapes::{CauseShape, causes_at};
 use super::members::member_count;
@@ -27,14 +28,15 @@ pub struct Lines<'v> {
 impl<'v> Model for Lines<'v> {
     ghost use Rattle.std.specs.Prelude.{◌≡◌, List, [], is_some, true, unwrap_or};
     ghost use Rattle.serde_json.specs.View.{items_view};
-    ghost use Rattle.wire.specs.NamedShapes.{lines_of};
+    ghost use Rattle.wire.specs.Members.{each_of};
+    ghost use Rattle.wire.specs.NamedShapes.{line_in};
     ghost use Rattle.by_name.specs.NamedLines.{NamedLine};
 
     ghost Value = { List NamedLine };
 
-    ghost view = { λ l. unwrap_or (lines_of (items_view l.items.now)) [] };
+    ghost view = { λ l. unwrap_or (each_of line_in (items_view l.items.now)) [] };
 
-    ghost invariant = { λ l. is_some (lines_of (items_view l.items.now)) ≡ true };
+    ghost invariant = { λ l. is_some (each_of line_in (items_view l.items.now)) ≡ true };
 }
 
 impl<'v> Lines<'v> {
@@ -56,7 +58,7 @@ impl<'v> Lines<'v> {
 
 /// The derivation of a member.
 pub fn derivation_at<'v>(value: &'v Value, name: &str) -> Option<Lines<'v>>
-    ensures { result ≡ derivation_at name.now (view value.now) }
+    ensures { result ≡ member derivation_in name.now (view value.now) }
 {
     let items = value.get(name)?.as_array()?.as_slice();
     if are_lines(items) {
@@ -69,15 +71,15 @@ pub fn derivation_at<'v>(value: &'v Value, name: &str) -> Option<Lines<'v>>
 /// The line at this place of values that are lines.
 fn line_at(items: &[Value], place: usize) -> LineShape<'_>
     requires within { place < length items.now }
-    requires lines { is_some (lines_of (items_view items.now)) ≡ true }
-    ensures { slice_get (unwrap_or (lines_of (items_view items.now)) []) place ≡ Some (line_said result) }
+    requires lines { is_some (each_of line_in (items_view items.now)) ≡ true }
+    ensures { slice_get (unwrap_or (each_of line_in (items_view items.now)) []) place ≡ Some (line_said result) }
 {
     line_in(&items[place]).unwrap()
 }
 
 /// Whether these values are lines.
 fn are_lines(items: &[Value]) -> bool
-    ensures { result ≡ is_some (lines_of (items_view items.now)) }
+    ensures { result ≡ is_some (each_of line_in (items_view items.now)) }
 {
     for item in items {
         if line_in(item).is_none() {

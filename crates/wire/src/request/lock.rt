@@ -1,7 +1,8 @@
 //! Lock lists, by which a build stays at the versions that it has.
 ghost use Rattle.serde_json.specs.View.{view};
 ghost use Rattle.versions.specs.Refusals.{Gives};
-ghost use Rattle.wire.specs.Locks.{judged_lock, lock_in, lock_of};
+ghost use Rattle.wire.specs.Locks.{judged_lines, judged_lock, lock_of};
+ghost use Rattle.wire.specs.Shapes.{pairs_in};
 
 use super::judging::{lock_in, names_in};
 use super::pairs::Pairs;
@@ -37,7 +38,7 @@ pub fn read_lock(alloc: Global, text: &[u8]) -> Result<Vec<(Name, Published)>, R
 }
 
 fn lines_in(alloc: Global, value: &Value) -> Result<Vec<(Name, Published)>, Refusal>
-    ensures { Gives (λ lines. lines.items) result (lock_in (view value.now)) }
+    ensures { Gives (λ lines. lines.items) result (judged_lines (pairs_in (view value.now))) }
 {
     match Pairs::of(value) {
         Some(lock) => judge_lock(alloc, &lock),

@@ -1,7 +1,8 @@
 //! Members of objects.
 ghost use Rattle.std.specs.Prelude.{◌≡◌, option_map};
+ghost use Rattle.serde_json.specs.Find.{as_str};
 ghost use Rattle.serde_json.specs.View.{view};
-ghost use Rattle.wire.specs.Members.{has_member, member_count, text_at, whole_at, whole_of};
+ghost use Rattle.wire.specs.Members.{has_member, member, member_count, whole_of};
 
 use serde_json::Value;
 
@@ -36,14 +37,14 @@ pub fn member_count(value: &Value) -> usize
 
 /// The text of a member.
 pub fn text_at<'v>(value: &'v Value, name: &str) -> Option<&'v str>
-    ensures { option_map (λ s. s.now) result ≡ text_at name.now (view value.now) }
+    ensures { option_map (λ s. s.now) result ≡ member as_str name.now (view value.now) }
 {
     value.get(name).and_then(Value::as_str)
 }
 
 /// The whole number of a member.
 pub fn whole_at(value: &Value, name: &str) -> Option<u32>
-    ensures { result ≡ whole_at name.now (view value.now) }
+    ensures { result ≡ member whole_of name.now (view value.now) }
 {
     whole_of(value.get(name)?)
 }

@@ -1,8 +1,8 @@
 //! Sets of ordinals, as arrays of whole numbers that ascend.
 ghost use Rattle.std.specs.Prelude.{◌≡◌, [], is_some, option_and_then, true, unwrap_or, IfOk};
 ghost use Rattle.serde_json.specs.View.{items_view, view};
-ghost use Rattle.wire.specs.Members.{whole_of};
-ghost use Rattle.wire.specs.NamedShapes.{at_least, ordinals_at, ordinals_from, ordinals_in};
+ghost use Rattle.wire.specs.Members.{member, whole_of};
+ghost use Rattle.wire.specs.NamedShapes.{at_least, ordinals_from, ordinals_in};
 
 use super::members::whole_of;
 use serde_json::Value;
@@ -51,7 +51,7 @@ impl<'v> OrdinalItems<'v> {
 
 /// The ordinals of a member.
 pub fn ordinals_at<'v>(value: &'v Value, name: &str) -> Option<OrdinalItems<'v>>
-    ensures { result ≡ ordinals_at name.now (view value.now) }
+    ensures { result ≡ member ordinals_in name.now (view value.now) }
 {
     OrdinalItems::of(value.get(name)?)
 }

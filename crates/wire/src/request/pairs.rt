@@ -1,7 +1,8 @@
 //! Arrays of pairs of texts.
 ghost use Rattle.std.specs.Prelude.{◌≡◌, ◌<◌, is_some, length, option_map, slice_get, true, unwrap_or, Some, []};
 ghost use Rattle.serde_json.specs.View.{items_view, view};
-ghost use Rattle.wire.specs.Shapes.{pair_of, pair_of_items, pairs_of, pairs_in};
+ghost use Rattle.wire.specs.Members.{each_of};
+ghost use Rattle.wire.specs.Shapes.{pair_of, pair_of_items, pairs_in};
 
 use serde_json::Value;
 use std::marker::Model;
@@ -16,13 +17,14 @@ impl<'v> Model for Pairs<'v> {
     ghost use Rattle.std.specs.Prelude.{◌≡◌, List, [], is_some, true, unwrap_or};
     ghost use Rattle.serde_json.specs.View.{items_view};
     ghost use Rattle.versions.specs.Words.{Text};
-    ghost use Rattle.wire.specs.Shapes.{pairs_of};
+    ghost use Rattle.wire.specs.Members.{each_of};
+    ghost use Rattle.wire.specs.Shapes.{pair_of};
 
     ghost Value = { List (Text × Text) };
 
-    ghost view = { λ p. unwrap_or (pairs_of (items_view p.items.now)) [] };
+    ghost view = { λ p. unwrap_or (each_of pair_of (items_view p.items.now)) [] };
 
-    ghost invariant = { λ p. is_some (pairs_of (items_view p.items.now)) ≡ true };
+    ghost invariant = { λ p. is_some (each_of pair_of (items_view p.items.now)) ≡ true };
 }
 
 impl<'v> Pairs<'v> {
@@ -64,15 +66,15 @@ impl<'v> Pairs<'v> {
 /// The pair at this place of values that are pairs.
 fn pair_at(items: &[Value], place: usize) -> (&str, &str)
     requires within { place < length items.now }
-    requires pairs { is_some (pairs_of (items_view items.now)) ≡ true }
-    ensures { slice_get (unwrap_or (pairs_of (items_view items.now)) []) place ≡ Some (result.0.now, result.1.now) }
+    requires pairs { is_some (each_of pair_of (items_view items.now)) ≡ true }
+    ensures { slice_get (unwrap_or (each_of pair_of (items_view items.now)) []) place ≡ Some (result.0.now, result.1.now) }
 {
     pair_of(&items[place]).unwrap()
 }
 
 /// Whether these values are pairs of texts.
 fn are_pairs(items: &[Value]) -> bool
-    ensures { result ≡ is_some (pairs_of (items_view items.now)) }
+    ensures { result ≡ is_some (each_of pair_of (items_view items.now)) }
 {
     for item in items {
         if pair_of(item).is_none() {

@@ -1,7 +1,9 @@
 //! The shapes of request lines.
-ghost use Rattle.std.specs.Prelude.{◌≡◌, option_map};
+ghost use Rattle.std.specs.Prelude.{◌≡◌, [], None, codes, false, option_map};
+ghost use Rattle.serde_json.specs.Find.{as_bool};
 ghost use Rattle.serde_json.specs.View.{view};
-ghost use Rattle.wire.specs.Shapes.{budget_in, checking_in, explain_in, lock_in, marking_in, pairs_at, publication_in, resolution_in, shape_of};
+ghost use Rattle.wire.specs.Members.{member, member_or};
+ghost use Rattle.wire.specs.Shapes.{budget_of, checking_in, marking_in, pairs_in, publication_in, resolution_in, shape_of};
 ghost use Rattle.wire.specs.Asked.{texts_of};
 ghost use Rattle.registry.specs.Step.{Yank, Unyank};
 
@@ -96,7 +98,7 @@ fn checking_in(value: &Value) -> Option<Shape<'_>>
 
 /// Whether a resolve line asks to explain a refusal, which may be left out.
 fn explain_in(value: &Value) -> Option<bool>
-    ensures { result ≡ explain_in (view value.now) }
+    ensures { result ≡ member_or as_bool false (codes "explain") (view value.now) }
 {
     match value.get("explain") {
         Some(explain) => explain.as_bool(),
@@ -106,7 +108,7 @@ fn explain_in(value: &Value) -> Option<bool>
 
 /// The lock of a resolve or a check line, which may be left out.
 fn lock_in(value: &Value) -> Option<Pairs<'_>>
-    ensures { result ≡ lock_in (view value.now) }
+    ensures { result ≡ member_or pairs_in [] (codes "lock") (view value.now) }
 {
     match value.get("lock") {
         Some(lock) => Pairs::of(lock),
@@ -116,7 +118,7 @@ fn lock_in(value: &Value) -> Option<Pairs<'_>>
 
 /// The budget of a resolve line, which may be left out.
 fn budget_in(value: &Value) -> Option<Option<u32>>
-    ensures { result ≡ budget_in (view value.now) }
+    ensures { result ≡ member_or budget_of None (codes "budget") (view value.now) }
 {
     match value.get("budget") {
         Some(budget) => Some(Some(whole_of(budget)?)),
@@ -126,7 +128,7 @@ fn budget_in(value: &Value) -> Option<Option<u32>>
 
 /// The pairs of a member.
 fn pairs_at<'v>(value: &'v Value, name: &str) -> Option<Pairs<'v>>
-    ensures { result ≡ pairs_at name.now (view value.now) }
+    ensures { result ≡ member pairs_in name.now (view value.now) }
 {
     Pairs::of(value.get(name)?)
 }

@@ -1,8 +1,10 @@
 //! The terms of a conclusion, as they stand in a line.
-ghost use Rattle.std.specs.Prelude.{◌≡◌, ◌<◌, Some, [], is_some, length, option_map, slice_get, true, unwrap_or, IfErr, IfOk};
+ghost use Rattle.std.specs.Prelude.{◌≡◌, ◌<◌, Some, [], is_some, length, option_and_then, option_map, slice_get, true, unwrap_or, IfErr, IfOk};
+ghost use Rattle.serde_json.specs.Find.{as_array, as_str};
 ghost use Rattle.serde_json.specs.View.{items_view, view};
 ghost use Rattle.wire.specs.DerivedShapes.{term_said};
-ghost use Rattle.wire.specs.NamedShapes.{name_at, name_in, term_in, term_of_items, terms_at, terms_of, whose_at, whose_in};
+ghost use Rattle.wire.specs.Members.{each_of, member};
+ghost use Rattle.wire.specs.NamedShapes.{name_in, term_in, term_of_items, whose_in};
 
 use super::members::text_at;
 use super::ordinals::OrdinalItems;
@@ -61,14 +63,14 @@ pub fn whose_in(text: &str) -> Option<Option<NameText<'_>>>
 
 /// The package name of a member.
 pub fn name_at<'v>(value: &'v Value, name: &str) -> Option<NameText<'v>>
-    ensures { result ≡ name_at name.now (view value.now) }
+    ensures { result ≡ option_and_then name_in (member as_str name.now (view value.now)) }
 {
     name_in(text_at(value, name)?)
 }
 
 /// The package name of a member, which may be empty.
 pub fn whose_at<'v>(value: &'v Value, name: &str) -> Option<Option<NameText<'v>>>
-    ensures { result ≡ whose_at name.now (view value.now) }
+    ensures { result ≡ option_and_then whose_in (member as_str name.now (view value.now)) }
 {
     whose_in(text_at(value, name)?)
 }
@@ -92,13 +94,14 @@ impl<'v> Model for TermItems<'v> {
     ghost use Rattle.serde_json.specs.View.{items_view};
     ghost use Rattle.versions.specs.Words.{Text};
     ghost use Rattle.terms.specs.declared.term.Term.{Term};
-    ghost use Rattle.wire.specs.NamedShapes.{terms_of};
+    ghost use Rattle.wire.specs.Members.{each_of};
+    ghost use Rattle.wire.specs.NamedShapes.{term_in};
 
     ghost Value = { List (Option Text × Term) };
 
-    ghost view = { λ t. unwrap_or (terms_of (items_view t.items.now)) [] };
+    ghost view = { λ t. unwrap_or (each_of term_in (items_view t.items.now)) [] };
 
-    ghost invariant = { λ t. is_some (terms_of (items_view t.items.now)) ≡ true };
+    ghost invariant = { λ t. is_some (each_of term_in (items_view t.items.now)) ≡ true };
 }
 
 impl<'v> TermItems<'v> {
@@ -120,7 +123,7 @@ impl<'v> TermItems<'v> {
 
 /// The terms of a member.
 pub fn terms_at<'v>(value: &'v Value, name: &str) -> Option<TermItems<'v>>
-    ensures { result ≡ terms_at name.now (view value.now) }
+    ensures { result ≡ option_and_then (each_of term_in) (member as_array name.now (view value.now)) }
 {
     let items = value.get(name)?.as_array()?.as_slice();
     if are_terms(items) {
@@ -133,15 +136,15 @@ pub fn terms_at<'v>(value: &'v Value, name: &str) -> Option<TermItems<'v>>
 /// The term at this place of values that are terms.
 fn term_at(items: &[Value], place: usize) -> TermShape<'_>
     requires within { place < length items.now }
-    requires terms { is_some (terms_of (items_view items.now)) ≡ true }
-    ensures { slice_get (unwrap_or (terms_of (items_view items.now)) []) place ≡ Some (term_said result) }
+    requires terms { is_some (each_of term_in (items_view items.now)) ≡ true }
+    ensures { slice_get (unwrap_or (each_of term_in (items_view items.now)) []) place ≡ Some (term_said result) }
 {
     term_in(&items[place]).unwrap()
 }
 
 /// Whether these values are terms.
 fn are_terms(items: &[Value]) -> bool
-    ensures { result ≡ is_some (terms_of (items_view items.now)) }
+    ensures { result ≡ is_some (each_of term_in (items_view items.now)) }
 {
     for item in items {
         if term_in(item).is_none() {

@@ -1,0 +1,67 @@
+"""What long runs share: seeds that are tried side by side, and what is found."""
+from __future__ import annotations
+
+import argparse
+import multiprocessing
+import os
+import tempfile
+import time
+from collections.abc import Callable, Iterable, Iterator, Sequence
+from typing import Any
+
+from tests.support import program
+
+
+class Find(Exception):
+    """What is found."""
+
+
+def demand(holds: object, what: str) -> None:
+    if not holds:
+        raise Find(what)
+
+
+def options(description: str | None, words: Sequence[str], **usual: int) -> argparse.Namespace:
+    """The options of a run: numbers with their usual values, and the program that is tried."""
+    parser = argparse.ArgumentParser(description=description, formatter_class=argparse.RawDescriptionHelpFormatter)
+    for name, number in {"seed": 1, **usual, "jobs": os.cpu_count()}.items():
+        parser.add_argument(f"--{name}", type=int, default=number)
+    parser.add_argument("--program", default=program.PROGRAM)
+    chosen = parser.parse_args(words)
+    program.PROGRAM = chosen.program
+    return chosen
+
+
+def seed_tried(seed: int, try_in: Callable[[str], Sequence[Any]], counts: Sequence[Any],
+               faults: tuple[type[Exception], ...] = (Find,)) -> tuple[Any, ...]:
+    """What is counted where a seed is tried in a folder of its own, and None; else these counts, and the find."""
+    with tempfile.TemporaryDirectory() as folder:
+        try:
+            return *try_in(folder), None
+        except faults as find:
+            return *counts, f"seed {seed}: {find}"
+
+
+class Run:
+    """Tries seeds side by side, and prints what is found."""
+
+    def __init__(self, jobs: int) -> None:
+        self.jobs, self.begun, self.finds = jobs, time.monotonic(), 0
+
+    def each(self, tried: Callable[..., tuple[Any, ...]], seeds: Iterable[int]) -> Iterator[list[Any]]:
+        """What is counted of each seed."""
+        with multiprocessing.get_context("fork").Pool(self.jobs) as pool:
+            for *counts, find in pool.imap_unordered(tried, seeds):
+                for text in [find] if isinstance(find, str) else find or ():
+                    self.finds += 1
+                    print(text, flush=True)
+                yield counts
+
+    def totals(self, tried: Callable[..., tuple[Any, ...]], seeds: Iterable[int]) -> list[Any]:
+        """The sums of what is counted of the seeds."""
+        return [sum(column) for column in zip(*self.each(tried, seeds))]
+
+    def end(self, counted: str, more: str = "") -> int:
+        """Prints what was counted in all; answers the exit status."""
+        print(f"{counted} in {time.monotonic() - self.begun:.0f} s{more}; {self.finds} finds")
+        return int(self.finds > 0)

@@ -1,0 +1,158 @@
+"""Seats of one journal in process: under a careless caller, by itself, under valgrind and under the sanitizers of the
+C compiler, which see the library's C and not the archive's own code; and as a race of threads, judged as the program's
+own races are."""
+import json
+import os
+import subprocess
+import tempfile
+import unittest
+from collections import defaultdict
+from unittest import mock
+
+import pytest
+
+from dev.long import race_many
+from tests.program import test_embedded_calls, test_race
+from tests.program.test_embedded_calls import ADDRESS, THREADS, VALGRIND
+from tests.program.test_journals import CHAIN_LEARNT, CONFLICT, journal
+from tests.support import plain_race, program
+from tests.support.library import FOLDER, LACKING, TESTS, linked, linked_with_sources, needs_library
+from tests.support.program import skip_without
+
+pytestmark = pytest.mark.not_quick("the static library")
+CALLS, RACE = os.path.join(TESTS, "c_seat_calls.c"), os.path.join(TESTS, "seats_race.c")
+
+
+@needs_library
+@skip_without("cc", "gcc")
+class Calls(test_embedded_calls.Calls):
+    def test_by_itself(self):
+        linked(self.caller, CALLS)
+        self.tried("calls", "forks", "threads")
+
+    @skip_without("valgrind", "valgrind")
+    def test_under_valgrind(self):
+        linked(self.caller, CALLS, "-g")
+        self.tried("calls", "threads", before=VALGRIND)
+
+    def test_under_the_sanitizers_of_addresses_and_of_what_is_undefined(self):
+        linked_with_sources(self.caller, CALLS, *ADDRESS)
+        self.tried("calls", "forks", "threads")
+
+    def test_under_the_sanitizer_of_threads(self):
+        linked_with_sources(self.caller, CALLS, *THREADS)
+        self.tried("calls", "threads")
+
+
+def racing(case):
+    """A program that races files as the program under test does, by seats in process; it lasts as long as a class of
+    tests."""
+    if not FOLDER:
+        raise unittest.SkipTest(LACKING)
+    folder = tempfile.TemporaryDirectory()
+    case.addClassCleanup(folder.cleanup)
+    return linked(os.path.join(folder.name, "race"), RACE)
+
+
+@needs_library
+class Race(test_race.Race):
+    """All that holds of the program's races."""
+
+    @classmethod
+    def setUpClass(cls):
+        race = racing(cls)
+
+        def run(words, *given, **more):
+            with mock.patch.object(program, "PROGRAM", race):
+                return program.run(words, *given, **more)
+        cls.enterClassContext(mock.patch.object(test_race, "run", run))
+
+
+def lines_in_order(replies, commands):
+    """The lines that a session is given so that it stands where each reply was given: the commands of the journal, each
+    reply's line behind the entries before its place; and what it has to answer to each."""
+    at = defaultdict(list)
+    for line, reply in replies:
+        told = json.loads(reply)
+        if "ok" not in told:
+            at[told["place"]].append((line, {name: it for name, it in told.items() if name not in ("place", "seat")}))
+    revision = 0
+    for place in range(len(commands) + 1):
+        if place and commands[place - 1]:
+            revision += 1
+            yield commands[place - 1], {"ok": True, "revision": revision}
+        yield from at[place]
+
+
+@needs_library
+@skip_without("cc", "gcc")
+class Judged(unittest.TestCase):
+    @classmethod
+    def setUpClass(cls):
+        cls.race = racing(cls)
+
+    def setUp(self):
+        self.folder = self.enterContext(tempfile.TemporaryDirectory())
+
+    def raced(self, files, **env):
+        """What a race of files prints."""
+        paths = [os.path.join(self.folder, str(number)) for number in range(len(files))]
+        for path, lines in zip(paths, files):
+            with open(path, "wb") as out:
+                out.writelines(line + b"\n" for line in lines)
+        done = subprocess.run([self.race, "race", *paths], env={**os.environ, **env}, capture_output=True, timeout=300,
+                              check=False)
+        self.assertEqual((done.returncode, done.stderr), (0, b""))
+        return done.stdout.decode()
+
+    def test_a_hundred_races(self):
+        pausing, lines, entries = race_many.library(self.folder), 0, 0
+        with mock.patch.object(program, "PROGRAM", self.race):
+            for seed in range(100):
+                asked, entered, find = race_many.tried(seed, pausing)
+                self.assertIsNone(find)
+                lines, entries = lines + asked, entries + entered
+        self.assertGreater(min(lines, entries), 1000)
+
+    def test_races_of_many_threads(self):
+        for seed, count in enumerate((4, 8, 64)):
+            rng = race_many.random.Random(f"seats {seed}")
+            maker = race_many.Maker(rng)
+            files = [[race_many.made(maker) for _ in range(600 // count)] for _ in range(count)]
+            # lines and replies in pieces of all lengths, most of them too short
+            piece, room = rng.choice([7, 64, 4096]), rng.choice([1, 100, 4096])
+            printed = self.raced(files, SEATS_PIECE=str(piece), SEATS_ROOM=str(room))
+            self.assertGreater(plain_race.judge(files, printed), 20)
+            self.answered_as_by_the_program(files, printed)
+
+    def answered_as_by_the_program(self, files, printed):
+        """A session of the program that is given the journal's commands answers each line the same at the same place,
+        but for why there is no solution, which may rest on what it learnt itself."""
+        lines, start = printed.split("\n"), printed.split("\n").index(plain_race.FIRST)
+        commands = [None if it.startswith('{"derivation"') else it.encode() for it in lines[start + 1:-2]]
+        wanted = list(lines_in_order(zip([line for file in files for line in file], lines), commands))
+        self.assertGreater(len(wanted), 100)
+        done = program.run(program.SERVE, b"".join(line + b"\n" for line, _ in wanted))
+        self.assertEqual((done.returncode, done.stderr), (0, b""))
+        for (line, told), reply in zip(wanted, done.stdout.splitlines(), strict=True):
+            same = json.loads(reply)
+            for members in (told, same):
+                for name in ("derivation", "explanation"):
+                    members.pop(name, None)
+            self.assertEqual(same, told, line[:500])
+
+    def test_a_journal_is_loaded_and_given_back(self):
+        path = os.path.join(self.folder, "loaded")
+        for text in (journal(CONFLICT), CHAIN_LEARNT, journal([])):
+            with open(path, "wb") as out:
+                out.write(text)
+            for count in (1, 64):
+                # each of the seats has seen all of it
+                printed = self.raced([[b'{"op":"list"}']] * count, SEATS_LOAD=path).encode()
+                self.assertTrue(printed.endswith(b"\n" + text), text)
+                entries = text.count(b"\n") - 2
+                self.assertEqual([json.loads(it)["place"] for it in printed.splitlines()[:count]], [entries] * count)
+
+
+if __name__ == "__main__":
+    unittest.main()
