@@ -108,7 +108,9 @@ int registryd_open_seats(const char *load, size_t entries, registryd_session *se
 /* As registryd_open_seats, with a journal that the seats go on with, in a file as registryd_open_embedded_journal has it. A reply can be taken
  * once the file has, for good, all entries up to the place that it tells, whoever made them. A call that finds them there waits for
  * nothing; else it writes all that its seat sees then, and its sync serves all calls that wait meanwhile. What a search taught is written
- * before a reply that counts it can be taken, or at the end. What registryd_journal copies may be ahead of the file.
+ * before a reply that counts it can be taken, or at the end. What registryd_journal copies may be ahead of the file. Room is only for as
+ * many commands as a session may have, 49,152, and of what searches taught the file has 16,384 lines at most: so a session of any kind
+ * goes on with it.
  *
  * Where a write or a sync fails, nothing more is written: each seat answers REGISTRYD_JOURNAL from then on, registryd_error tells why, and
  * of replies only those can be taken that rest on what is in the file for good. The file gets its last line once each seat is saved or

@@ -42,6 +42,10 @@ static struct fault of_seats(uint32_t answer, size_t line)
 
 /* ---- the file */
 
+/* How many commands, and lines of what searches taught, the file of a session may have: with more, none goes on with it. */
+#define MOST_COMMANDS 49152
+#define MOST_LEARNT 16384
+
 /* What the seats of a journal that is kept share; the last of them frees it. */
 struct seats_file {
     /* how many entries the file has for good: read without the lock, and written with it, as all that follows */
@@ -49,8 +53,8 @@ struct seats_file {
     atomic_bool is_faulty;
     pthread_mutex_t lock;
     struct journal_file file;
-    /* how many lines of items stand there, and whether the last one of all does */
-    size_t lines;
+    /* how many lines of items stand there, how many of these were learnt, and whether the last line of all does */
+    size_t lines, learnt;
     bool is_ended;
     /* how many seats are open, and how many may enter more */
     size_t open, entering;
@@ -65,13 +69,34 @@ static bool is_faulty(const struct seat *it)
     return it->file && atomic_load(&it->file->is_faulty);
 }
 
-/* How many lines end within so many bytes. */
-static size_t count_lines(const struct bytes *text, size_t length)
+/* The end of a line, or null where it has none before that of the text. */
+static const char *end_of(const char *line, const char *end)
 {
-    size_t count = 0;
-    for (size_t i = 0; i < length; i++)
-        count += text->at[i] == '\n';
-    return count;
+    const char *feed = memchr(line, '\n', (size_t)(end - line));
+    return feed ? feed + 1 : NULL;
+}
+
+static bool is_learnt(const char *line, const char *end)
+{
+    static const char first[] = "{\"derivation\":";
+    return (size_t)(end - line) >= sizeof first - 1 && !memcmp(line, first, sizeof first - 1);
+}
+
+/* Counts the lines on their way to the file, and leaves out what was learnt beyond what it may have: no command needs that. */
+static void count_lines(struct seats_file *it)
+{
+    char *to = it->bytes.at;
+    const char *line = to, *end = to + it->bytes.length, *next;
+    for (; line < end && (next = end_of(line, end)); line = next) {
+        bool is_one = is_learnt(line, next);
+        if (is_one && it->learnt == MOST_LEARNT)
+            continue;
+        it->lines++;
+        it->learnt += is_one;
+        memmove(to, line, (size_t)(next - line));
+        to += next - line;
+    }
+    it->bytes.length = (size_t)(to - it->bytes.at);
 }
 
 /* Ends the writing. */
@@ -85,10 +110,11 @@ static int end_file(struct seats_file *it, struct fault fault)
 /* Puts bytes behind the end of the file, which has as many entries then. */
 static int put_behind(struct seats_file *it, size_t entries)
 {
+    if (it->bytes.length)
+        count_lines(it);
     struct fault fault = it->bytes.length ? append_to_journal(&it->file, &it->bytes) : (struct fault){.what = NOTHING};
     if (fault.what != NOTHING)
         return end_file(it, fault);
-    it->lines += count_lines(&it->bytes, it->bytes.length);
     atomic_store(&it->safe, entries);
     return REGISTRYD_OK;
 }
@@ -365,19 +391,25 @@ void take_seat(struct session *session, const struct seat_slot *slot, struct sea
 
 /* ---- opening */
 
-/* The seats that are opened, and what stands in the file that they keep. */
+/* The seats that are opened, and how many lines of items stand in the file that they keep, and were learnt. */
 struct opened {
     struct seat_slot *seats;
-    size_t count, entries, lines;
+    size_t count, entries, lines, learnt;
 };
 
+/* With so much room at most no more commands are accepted than the file may have. */
 static struct fault recover(void *whom, const struct bytes *text, size_t *kept)
 {
     struct opened *it = whom;
-    size_t line = 0;
-    uint32_t answer = registryd_seats_recover(it->seats, it->count, bytes_at(text->at), text->length, kept, &line, it->entries);
+    const char *at = text->at, *end = at + text->length, *next;
+    size_t lines = 0, line = 0;
+    for (; at < end && (next = end_of(at, end)); at = next, lines++)
+        it->learnt += is_learnt(at, next);
+    size_t most = it->learnt + MOST_COMMANDS, entries = it->entries < most ? it->entries : most;
+    uint32_t answer = registryd_seats_recover(it->seats, it->count, bytes_at(text->at), text->length, kept, &line, entries);
+    /* what is cut off may be a whole line, that of the end */
     if (answer == SEAT_OK && *kept)
-        it->lines = count_lines(text, *kept) - 1;
+        it->lines = lines - 1 - (*kept < (size_t)(at - text->at));
     return of_seats(answer, line);
 }
 
@@ -395,6 +427,7 @@ static struct fault keep_seats(struct opened *opened, const char *name, struct s
     pthread_mutex_init(&it->lock, NULL);
     it->open = it->entering = opened->count;
     it->lines = opened->lines;
+    it->learnt = opened->learnt;
     atomic_init(&it->safe, opened->lines);
     *file = it;
     return fault;
