@@ -1,5 +1,5 @@
-"""Kills programs whose threads share a journal that is kept in a file, each by a seat, and looks for what was told and is
-not in the file.
+"""Kills programs whose threads share a journal that is kept in a file, each by a seat, and looks for what was told and
+is not in the file.
 
     python3 -m dev.long.kill_seats --kills 2000            so many kills; each file has a seed, counted from --seed
     python3 -m dev.long.kill_seats --seed 17 --kills 20    the lines of one file again, killed at other moments
@@ -27,10 +27,11 @@ from collections import defaultdict
 from collections.abc import Sequence
 from typing import Any
 
-from dev.long.race_many import Maker, made
+from dev.long.race_many import made
 from dev.runs import Find, Run, demand, options, seed_tried
 from registry_cli import tied
 from tests.support import library, plain_race, program
+from tests.support.made_lines import Maker
 from tests.support.plain_remnant import NoRemnant, Reader, is_learnt
 
 SOURCE = os.path.join(library.TESTS, "seats_told.c")
@@ -149,7 +150,7 @@ def entries_in(reader: Reader, path: str) -> list[bytes]:
 def gone_on(path: str, words: Sequence[str]) -> bytes:
     """What a session of the program lists, which begins with the file."""
     done = program.run([*program.SERVE, *words, path], b'{"op":"list"}\n')
-    demand((done.returncode, done.stderr) == (0, b""), f"a session over the file ends with {done.returncode} {done.stderr}")
+    demand((done.returncode, done.stderr) == (0, b""), f"a session ends with {done.returncode} {done.stderr}")
     listed: bytes = done.stdout
     return listed
 
@@ -164,7 +165,8 @@ def killed(seed: int, told: str, most: int, folder: str) -> tuple[int, int, int]
         files = lines_of(rng, rng.choice(SEATS))
         is_killed, read, ended = read_until_killed(rng, begun(told, folder, path, files), sum(map(len, files)))
         # it may end by itself before it is killed
-        demand(ended in ((0, b""), *([(-9, b"")] if is_killed else [])), f"run {number} ends with {ended[0]} {ended[1]!r}")
+        is_right = ended == (0, b"") or (is_killed and ended == (-9, b""))
+        demand(is_right, f"run {number} ends with {ended[0]} {ended[1]!r}")
         entries = entries_in(reader, path)
         demand(entries or b'"ok"' not in read, "a command was accepted, and there is no entry")
         judged(entries, before, files, read)

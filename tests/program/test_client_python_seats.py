@@ -121,7 +121,8 @@ class Seats(client_python.Case):
         text = journal([publish("a", "1.0.0"), publish("b", "1.0.0", ["a ^1"])])
         begun = text[:text.index(b"end")]
         self.assertEqual((self.read(path), one.journal()), (begun, text))
-        for another in (lambda: Registry(embedded=True, library=LIBRARY, journal=path), lambda: self.open(1, keep=path)):
+        others = lambda: Registry(embedded=True, library=LIBRARY, journal=path), lambda: self.open(1, keep=path)
+        for another in others:
             self.ends(f"journal {path}: in use by another session", another)
         one.close()
         self.assertEqual(self.read(path), begun)

@@ -99,7 +99,7 @@ class Several(unittest.TestCase):
         self.kept = os.path.join(self.folder, "kept")
 
     def ran(self, files, most=None, **more):
-        """What seats print that keep a journal and are given these lines, where files may have so many bytes at most."""
+        """What seats print that keep a journal and are given these lines, where files have at most so many bytes."""
         names = [os.path.join(self.folder, str(number)) for number in range(len(files))]
         for name, lines in zip(names, files):
             with open(name, "w", encoding="utf-8") as out:
@@ -117,7 +117,8 @@ class Several(unittest.TestCase):
 
     def test_calls_that_wait_share_a_sync(self):
         library, every = os.path.join(self.folder, "count.so"), self.COUNT * self.EACH
-        subprocess.run(["cc", "-shared", "-fPIC", "-x", "c", "-", "-o", library], input=COUNT_SYNCS.encode(), check=True)
+        subprocess.run(["cc", "-shared", "-fPIC", "-x", "c", "-", "-o", library], input=COUNT_SYNCS.encode(),
+                       check=True)
         done = self.ran(self.publications(), env={**os.environ, "LD_PRELOAD": library})
         self.assertEqual((done.returncode, done.stdout.count(b'"ok":true')), (0, every))
         self.assertTrue(self.read().endswith(b"\nend %d\n" % every))

@@ -211,10 +211,10 @@ class Seat(Registry):
 
 def seats(count: int, *, keep: FilePath | None = None, load: FilePath | None = None, entries: int = 65_536,
           library: FilePath | None = None) -> list[Seat]:
-    """Opens 1 to 64 seats of one journal. `keep` is the file that it is kept in, made where it is not there: it has, for
-    good, whatever a reply tells or rests on before the call returns, and calls that wait for that at once share a sync.
-    Where the file can't be written, each seat raises `Ended` from then on; it has its last line once all seats are
-    closed. Else the journal begins with that of the file `load`, or with none, and no file gets it: `Seat.journal`
+    """Opens 1 to 64 seats of one journal. `keep` is the file that it is kept in, made where it is not there: it has,
+    for good, whatever a reply tells or rests on before the call returns, and calls that wait for that at once share a
+    sync. Where the file can't be written, each seat raises `Ended` from then on; it has its last line once all seats
+    are closed. Else the journal begins with that of the file `load`, or with none, and no file gets it: `Seat.journal`
     tells it, and it is gone once the last seat is closed.
 
     It has room for so many entries, which are commands and what searches taught: where that is used up, commands raise
