@@ -3,6 +3,7 @@ killed at each call, crashes with its machine, and has its file cut, damaged, he
 the syncs, and the fault of a full disk."""
 import json
 import os
+import random
 import subprocess
 import tempfile
 import unittest
@@ -23,8 +24,10 @@ from tests.program import (
 from tests.program.test_journals import CHAIN, CONFLICT, journal, learn
 from tests.support.in_process import BySeat
 from tests.support.library import linked, needs_library
+from tests.support.plain_disk import Disk, calls_in
 from tests.support.plain_remnant import remnant
-from tests.support.program import files_of_at_most, publish, resolve, skip_without
+from tests.support.preloaded import WATCH_CALLS, built
+from tests.support.program import LIST, files_of_at_most, publish, resolve, skip_without
 
 pytestmark = pytest.mark.not_quick("the static library")
 
@@ -93,8 +96,12 @@ __attribute__((destructor)) static void tell(void)
 class Several(unittest.TestCase):
     COUNT, EACH = 8, 25
 
+    @classmethod
+    def setUpClass(cls):
+        cls.watching = built(cls, WATCH_CALLS)
+
     def setUp(self):
-        self.folder = self.enterContext(tempfile.TemporaryDirectory())
+        self.folder = os.path.realpath(self.enterContext(tempfile.TemporaryDirectory()))
         self.told = linked(os.path.join(self.folder, "told"), kill_seats.SOURCE)
         self.kept = os.path.join(self.folder, "kept")
 
@@ -102,8 +109,8 @@ class Several(unittest.TestCase):
         """What seats print that keep a journal and are given these lines, where files have at most so many bytes."""
         names = [os.path.join(self.folder, str(number)) for number in range(len(files))]
         for name, lines in zip(names, files):
-            with open(name, "w", encoding="utf-8") as out:
-                out.writelines(line + "\n" for line in lines)
+            with open(name, "wb") as out:
+                out.writelines(line + b"\n" for line in lines)
         with files_of_at_most(most):
             return subprocess.run([self.told, self.kept, *names], capture_output=True, timeout=300, check=False,
                                   restore_signals=most is None, **more)
@@ -113,7 +120,8 @@ class Several(unittest.TestCase):
             return file.read()
 
     def publications(self):
-        return [[publish(f"p{seat}", f"{version}.0.0") for version in range(self.EACH)] for seat in range(self.COUNT)]
+        return [[publish(f"p{seat}", f"{version}.0.0").encode() for version in range(self.EACH)]
+                for seat in range(self.COUNT)]
 
     def test_calls_that_wait_share_a_sync(self):
         library, every = os.path.join(self.folder, "count.so"), self.COUNT * self.EACH
@@ -125,8 +133,40 @@ class Several(unittest.TestCase):
         self.assertLess(int(done.stderr), every * 2 // 3)
         print(f"({int(done.stderr)} syncs for {every} commands) ", end="")
         # what is there already asks for none but that of the last line
-        listed = self.ran([['{"op":"list"}'] * 3] * self.COUNT, env={**os.environ, "LD_PRELOAD": library})
+        listed = self.ran([[LIST.encode()] * 3] * self.COUNT, env={**os.environ, "LD_PRELOAD": library})
         self.assertEqual((listed.returncode, listed.stdout.count(b"\n"), listed.stderr), (0, 3 * self.COUNT, b"1"))
+
+    def told_too_early(self, seed, *before):
+        """A reply that goes out before all that it rests on outlasts a crash; None where there is none."""
+        path, rng = os.path.join(self.folder, "log"), random.Random(f"watched {seed}")
+        files = kill_seats.lines_of(rng, self.COUNT)
+        log, disk = os.open(path, os.O_WRONLY | os.O_APPEND | os.O_CREAT | os.O_TRUNC), Disk(self.folder, {})
+        env = {**os.environ, "LD_PRELOAD": " ".join([*before, self.watching]), "WATCH_TO": str(log)}
+        if os.path.exists(self.kept):
+            os.unlink(self.kept)
+        done = self.ran(files, env=env, pass_fds=[log])
+        os.close(log)
+        self.assertEqual((done.returncode, done.stderr), (0, b""))
+        with open(path, "rb") as file:
+            calls = list(calls_in(file.read()))
+        replies = 0
+        for call in calls:
+            disk.follow(call)
+            for reply in call.given.splitlines() if call.name == "write" and call.number == 1 else ():
+                replies += 1
+                lasts = disk.lasting.get(self.kept)
+                if json.loads(reply)["place"] > (lasts.synced.count(b"\n") - 1 if lasts else 0):
+                    return reply
+        self.assertEqual(replies, sum(map(len, files)))
+        return None
+
+    def test_no_reply_goes_out_before_a_crash_leaves_what_it_rests_on(self):
+        for seed in range(12):
+            self.assertIsNone(self.told_too_early(seed), seed)
+        idle = os.path.join(self.folder, "idle.so")
+        subprocess.run(["cc", "-shared", "-fPIC", "-x", "c", "-", "-o", idle], check=True,
+                       input=test_durable_kills.NO_SYNC.encode())
+        self.assertIsNotNone(self.told_too_early(0, idle))
 
     def test_what_is_learnt_beyond_what_a_session_may_have(self):
         lines, versions, more = list(CHAIN), 1, publish("new", "1.0.0")
@@ -136,7 +176,7 @@ class Several(unittest.TestCase):
             versions += 1
         with open(self.kept, "wb") as out:
             out.write(journal(lines))
-        done = self.ran([[*CONFLICT, resolve("foo >=1.0.0"), more]])
+        done = self.ran([[line.encode() for line in [*CONFLICT, resolve("foo >=1.0.0"), more]]])
         self.assertEqual((done.returncode, done.stderr), (0, b""))
         # it is learnt, and the file does not get it
         self.assertGreater(json.loads(done.stdout.splitlines()[-1])["place"], len(lines) + len(CONFLICT) + 1)
@@ -158,5 +198,4 @@ class Several(unittest.TestCase):
             self.assertEqual(done.returncode, 0)
             self.assertIn(done.stderr, [fault * count for count in range(least, self.COUNT + 1)], most)
             self.assertGreater(least, 0)
-            kill_seats.judged(entries, [], [[line.encode() for line in lines] for lines in self.publications()],
-                              done.stdout)
+            kill_seats.judged(entries, [], self.publications(), done.stdout)
