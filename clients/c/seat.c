@@ -48,19 +48,20 @@ static struct fault of_seats(uint32_t answer, size_t line)
 
 /* What the seats of a journal that is kept share; the last of them frees it. */
 struct seats_file {
-    /* how many entries the file has for good: read without the lock, and written with it, as all that follows */
+    /* how many entries the file has for good, and whether nothing more goes there: then `fault` tells why, and stays */
     atomic_size_t safe;
     atomic_bool is_faulty;
+    struct fault fault;
+    /* for what follows: how many seats are open, how many may enter more, and whether one writes, for whose end others may wait */
     pthread_mutex_t lock;
+    pthread_cond_t written;
+    size_t open, entering;
+    bool is_writing;
+    /* for who writes: how many lines of items stand in the file, how many of these were learnt, whether the last line of all does, and
+     * room for lines on their way */
     struct journal_file file;
-    /* how many lines of items stand there, how many of these were learnt, and whether the last line of all does */
     size_t lines, learnt;
     bool is_ended;
-    /* how many seats are open, and how many may enter more */
-    size_t open, entering;
-    /* what is the matter with the file, if something is: then nothing more goes there */
-    struct fault fault;
-    /* room for lines on their way */
     struct bytes bytes;
 };
 
@@ -99,7 +100,7 @@ static void count_lines(struct seats_file *it)
     it->bytes.length = (size_t)(to - it->bytes.at);
 }
 
-/* Ends the writing. */
+/* Has nothing more go to the file. */
 static int end_file(struct seats_file *it, struct fault fault)
 {
     it->fault = fault;
@@ -151,16 +152,30 @@ static int end_journal(struct seats_file *it, struct seat *by)
     return fault.what == NOTHING ? REGISTRYD_OK : end_file(it, fault);
 }
 
-/* Has so many entries be safe. What others wait for meanwhile goes with it: they find it done. */
+/* Has a seat write while no other does. It has the lock before and behind that, and not meanwhile. */
+static int write_alone(struct seats_file *it, struct seat *by, int (*work)(struct seats_file *, struct seat *))
+{
+    if (atomic_load(&it->is_faulty))
+        return REGISTRYD_JOURNAL;
+    it->is_writing = true;
+    pthread_mutex_unlock(&it->lock);
+    int answer = work(it, by);
+    pthread_mutex_lock(&it->lock);
+    it->is_writing = false;
+    pthread_cond_broadcast(&it->written);
+    return answer;
+}
+
+/* Has so many entries be safe. What others wait for meanwhile is written by the first of them that finds it is not. */
 static int make_safe(struct seat *it, size_t entries)
 {
     struct seats_file *file = it->file;
     if (atomic_load(&file->safe) >= entries)
         return REGISTRYD_OK;
     pthread_mutex_lock(&file->lock);
-    int answer = REGISTRYD_OK;
-    if (atomic_load(&file->safe) < entries)
-        answer = atomic_load(&file->is_faulty) ? REGISTRYD_JOURNAL : write_seen(file, it);
+    while (file->is_writing && atomic_load(&file->safe) < entries)
+        pthread_cond_wait(&file->written, &file->lock);
+    int answer = atomic_load(&file->safe) < entries ? write_alone(file, it, write_seen) : REGISTRYD_OK;
     pthread_mutex_unlock(&file->lock);
     return answer;
 }
@@ -172,9 +187,11 @@ static int enter_no_more(struct seat *it)
     pthread_mutex_lock(&file->lock);
     file->entering -= !it->enters_no_more;
     it->enters_no_more = true;
+    while (file->is_writing && !file->entering)
+        pthread_cond_wait(&file->written, &file->lock);
     int answer = atomic_load(&file->is_faulty) ? REGISTRYD_JOURNAL : REGISTRYD_OK;
     if (!answer && !file->entering && !file->is_ended)
-        answer = end_journal(file, it);
+        answer = write_alone(file, it, end_journal);
     pthread_mutex_unlock(&file->lock);
     return answer;
 }
@@ -183,6 +200,7 @@ static void free_file(struct seats_file *it)
 {
     close_journal(&it->file);
     free_bytes(&it->bytes);
+    pthread_cond_destroy(&it->written);
     pthread_mutex_destroy(&it->lock);
     free(it);
 }
@@ -343,13 +361,11 @@ static int journal(struct session *session, char *room, size_t size, size_t *len
 /* Where no file is, nothing but memory can be the matter with a seat, and that passes. */
 static void tell(const struct session *session, struct telling telling)
 {
-    struct seats_file *file = session->seat.file;
-    tell_words(telling, "");
-    if (!file)
-        return;
-    pthread_mutex_lock(&file->lock);
-    tell_fault(telling, file->fault, file->file.name);
-    pthread_mutex_unlock(&file->lock);
+    const struct seat *it = &session->seat;
+    if (is_faulty(it))
+        tell_fault(telling, it->file->fault, it->file->file.name);
+    else
+        tell_words(telling, "");
 }
 
 static void close_seat(struct session *session)
@@ -370,7 +386,7 @@ static void cut(struct session *session)
     (void)session;
 }
 
-/* Another thread of the first process may have had the lock: nothing else of the file is touched. */
+/* Another thread of the first process may have written: nothing else of the file is touched. */
 static void forsake(struct session *session)
 {
     struct seats_file *file = session->seat.file;
@@ -425,6 +441,7 @@ static struct fault keep_seats(struct opened *opened, const char *name, struct s
         return fault;
     }
     pthread_mutex_init(&it->lock, NULL);
+    pthread_cond_init(&it->written, NULL);
     it->open = it->entering = opened->count;
     it->lines = opened->lines;
     it->learnt = opened->learnt;
