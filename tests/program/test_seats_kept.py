@@ -18,6 +18,7 @@ from tests.program import (
     test_durable_full,
     test_durable_kills,
     test_embedded_full,
+    test_embedded_memory,
     test_kill_sessions,
     test_move_journals,
 )
@@ -66,6 +67,12 @@ class UnderLoad(BySeat, test_kill_sessions.Kills):
 
 class Moves(BySeat, test_move_journals.Moves):
     pass
+
+
+class Memory(test_embedded_memory.Memory):
+    COMPILED = BySeat.COMPILED
+    # of seats that keep no file
+    test_each_request_of_a_session = test_each_request_of_a_session_that_saves = None
 
 
 COUNT_SYNCS = """

@@ -17,6 +17,10 @@
 #define ROOM PIECE
 #endif
 
+/* A seat's call has another try where there was no memory. */
+#define TWICE(call) (answer_twice = (call), answer_twice == REGISTRYD_MEMORY ? (call) : answer_twice)
+
+static int answer_twice;
 static char words[8192];
 
 static int tell(const char *what)
@@ -83,7 +87,7 @@ static int write_replies(registryd_session session)
     static char replies[ROOM + 1];
     size_t length, left;
     do {
-        if (registryd_take(session, replies, ROOM, &length, &left))
+        if (TWICE(registryd_take(session, replies, ROOM, &length, &left)))
             return 0;
         length = as_of_a_session(replies, length);
         for (size_t at = 0; at < length;) {
@@ -103,7 +107,7 @@ static int feed(registryd_session session, const char *bytes, size_t length)
     size_t piece = given ? strtoul(given, NULL, 10) : PIECE;
     for (size_t at = 0; at < length; at += piece) {
         size_t some = length - at < piece ? length - at : piece;
-        if (registryd_feed(session, bytes + at, some) || !write_replies(session))
+        if (TWICE(registryd_feed(session, bytes + at, some)) || !write_replies(session))
             return 0;
     }
     return 1;
@@ -116,7 +120,7 @@ static int serve(registryd_session session)
         ssize_t got = read(STDIN_FILENO, bytes, sizeof bytes);
         if (got < 0)
             return tell("input failed");
-        int goes_on = got ? feed(session, bytes, (size_t)got) : !registryd_save(session) && write_replies(session);
+        int goes_on = got ? feed(session, bytes, (size_t)got) : !TWICE(registryd_save(session)) && write_replies(session);
         if (!goes_on) {
             registryd_error(session, words, sizeof words);
             return tell(words);
