@@ -188,20 +188,18 @@ static struct fault of_slot(uint32_t answer, size_t line)
     return answer == SLOT_JOURNAL ? (struct fault){.what = WRONG_LINE, .line = line} : no_memory;
 }
 
+static struct fault recover(void *slot, const struct bytes *text, size_t *kept)
+{
+    size_t line = 0;
+    uint32_t answer = registryd_slot_recover(slot, bytes_at(text->at), text->length, kept, &line);
+    return of_slot(answer, line);
+}
+
 /* Begins with the journal of a file that the session goes on with. */
 static struct fault begin_kept(struct embedded *it, const char *name)
 {
-    size_t kept = 0, line = 0;
-    struct bytes text = {.at = NULL};
-    struct fault fault = open_journal(&it->kept, name, &text);
+    struct fault fault = begin_journal(&it->kept, name, recover, &it->slot);
     it->is_kept = fault.what == NOTHING;
-    if (fault.what == NOTHING) {
-        uint32_t answer = registryd_slot_recover(&it->slot, bytes_at(text.at), text.length, &kept, &line);
-        fault = of_slot(answer, line);
-    }
-    if (fault.what == NOTHING)
-        fault = mend_journal(&it->kept, &text, kept);
-    free_bytes(&text);
     return fault;
 }
 

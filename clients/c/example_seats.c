@@ -1,12 +1,12 @@
 /* A build cache that threads share: each publishes what it has built, withdraws what was wrong, and asks which builds fit together, all at
- * once. The word is the file from which the cache's journal is loaded, if it is there, and to which it is written at the end. */
+ * once. The word, if there is one, is the file in which the cache's journal is kept: what was told is there, whatever becomes of the
+ * process. */
 #include <registryd.h>
 
 #include <pthread.h>
 #include <stdio.h>
 #include <stdlib.h>
 #include <string.h>
-#include <unistd.h>
 
 enum { THREADS = 4, BUILDS = 25, ENTRIES = 4096 };
 
@@ -52,30 +52,16 @@ static void *build(void *given)
     return NULL;
 }
 
-/* Writes the journal that a seat has seen, all of it once the threads have ended. */
-static int write_journal(registryd_session seat, const char *name)
-{
-    size_t size = 0;
-    registryd_journal(seat, NULL, 0, &size);
-    char *text = malloc(size);
-    int answer = text ? registryd_journal(seat, text, size, &size) : REGISTRYD_MEMORY;
-    FILE *file = answer ? NULL : fopen(name, "wb");
-    int done = file && fwrite(text, 1, size, file) == size;
-    if (file && fclose(file))
-        done = 0;
-    free(text);
-    return done;
-}
-
 int main(int count, char **words)
 {
     struct builder all[THREADS];
     registryd_session seats[THREADS];
     char why[REGISTRYD_WORDS];
     int accepted = 0, selected = 0;
-    if (count != 2)
+    if (count > 2)
         return 2;
-    if (registryd_open_seats(access(words[1], F_OK) ? NULL : words[1], ENTRIES, seats, THREADS, why, sizeof why)) {
+    if (count == 2 ? registryd_open_seats_journal(words[1], ENTRIES, seats, THREADS, why, sizeof why)
+                   : registryd_open_seats(NULL, ENTRIES, seats, THREADS, why, sizeof why)) {
         fprintf(stderr, "%s\n", why);
         return 1;
     }
@@ -90,9 +76,10 @@ int main(int count, char **words)
         selected += all[i].selected;
     }
     printf("%d commands are accepted, %d requests have a selection\n", accepted, selected);
-    if (!write_journal(seats[0], words[1]))
-        fprintf(stderr, "%s can't be written\n", words[1]);
-    for (int i = 0; i < THREADS; i++)
+    int answer = REGISTRYD_OK;
+    for (int i = 0; i < THREADS; i++) {
+        answer = answer ? answer : registryd_save(seats[i]);
         registryd_close(seats[i]);
-    return 0;
+    }
+    return answer;
 }

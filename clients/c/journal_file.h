@@ -15,13 +15,13 @@ struct journal_file {
     off_t length;
 };
 
-/* Opens a plain file that no other session has, makes it where it is not there, and reads all of it. Where something is the matter
- * the file is closed. */
-struct fault open_journal(struct journal_file *it, const char *name, struct bytes *text);
+/* Begins with what stands in a file, and tells how many of its bytes stay. */
+typedef struct fault recovering(void *whom, const struct bytes *text, size_t *kept);
 
-/* Has the file end behind so many of its bytes, which stand in `text` still, and have its first line in the second format, and has
- * all of that outlast a crash. */
-struct fault mend_journal(struct journal_file *it, const struct bytes *text, size_t kept);
+/* Opens a plain file that no other session has, and makes it where it is not there. Has `whom` begin with what stands in it; then has it
+ * end behind the bytes that stay, and have its first line in the second format, and has all of that outlast a crash. Where something is
+ * the matter the file is closed. */
+struct fault begin_journal(struct journal_file *it, const char *name, recovering *recover, void *whom);
 
 /* Puts bytes behind the end, where the name still leads to the file and that has the length that the session left it with, and has them
  * outlast a crash. */

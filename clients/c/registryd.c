@@ -196,22 +196,23 @@ static size_t take_places(size_t *numbers, size_t count)
 }
 
 /* Has each seat stand in its place. */
-static void begin_seats(const struct seat_slot *slots, const size_t *numbers, registryd_session *seats, size_t count)
+static void begin_seats(const struct seat_slot *slots, struct seats_file *file, const size_t *numbers, registryd_session *seats, size_t count)
 {
     for (size_t i = 0; i < count; i++) {
         struct place *place = &table.places[numbers[i]];
         pthread_mutex_lock(&place->lock);
         memset(&place->session, 0, sizeof place->session);
-        take_seat(&place->session, &slots[i]);
+        take_seat(&place->session, &slots[i], file);
         seats[i] = begun(place, numbers[i]);
         pthread_mutex_unlock(&place->lock);
     }
 }
 
-int registryd_open_seats(const char *load, size_t entries, registryd_session *seats, size_t count, char *words, size_t room)
+static int open_all(const struct wanted *wanted, size_t entries, registryd_session *seats, size_t count, char *words, size_t room)
 {
     size_t numbers[REGISTRYD_SEATS];
     struct seat_slot slots[REGISTRYD_SEATS] = {{.is_open = false}};
+    struct seats_file *file = NULL;
     struct telling telling = {.words = words, .room = room};
     if (!may_be(words, room))
         return REGISTRYD_MISUSE;
@@ -221,12 +222,22 @@ int registryd_open_seats(const char *load, size_t entries, registryd_session *se
         return REGISTRYD_MISUSE;
     }
     size_t taken = take_places(numbers, count);
-    int answer = taken == count ? open_seats(slots, count, entries, load, telling) : as_many_as_may_be(telling);
+    int answer = taken == count ? open_seats(slots, count, entries, wanted, &file, telling) : as_many_as_may_be(telling);
     if (!answer)
-        begin_seats(slots, numbers, seats, count);
+        begin_seats(slots, file, numbers, seats, count);
     while (answer && taken)
         give_back(numbers[--taken]);
     return answer;
+}
+
+int registryd_open_seats(const char *load, size_t entries, registryd_session *seats, size_t count, char *words, size_t room)
+{
+    return open_all(&(struct wanted){.load = load}, entries, seats, count, words, room);
+}
+
+int registryd_open_seats_journal(const char *journal, size_t entries, registryd_session *seats, size_t count, char *words, size_t room)
+{
+    return open_all(&(struct wanted){.journal = journal}, entries, journal ? seats : NULL, count, words, room);
 }
 
 int registryd_connect(const char *where, registryd_session *session)

@@ -7,8 +7,8 @@
  *                        that share requests
  *   in process           registryd_open_embedded, registryd_open_embedded_journal: the session is a part of the caller's process,
  *                        which starts nothing and waits for nothing but its journal's file
- *   by a seat            registryd_open_seats: several sessions in process that share one journal, each for a thread of its own,
- *                        with replies as a race writes them
+ *   by a seat            registryd_open_seats, registryd_open_seats_journal: several sessions in process that share one journal, each
+ *                        for a thread of its own, with replies as a race writes them
  *   by a service         registryd_connect: a `registry serve` that keeps one journal for many clients
  *
  * What is proved: of the program, which replies it gives to the lines that it reads; of the archive `embedded`, which is linked
@@ -97,13 +97,25 @@ int registryd_open_embedded_journal(const char *journal, registryd_session *sess
 
 /* Opens `count` seats of one journal in process, 1 to REGISTRYD_SEATS, each a session for one thread, and writes their numbers to `seats`.
  * The journal has room for so many entries, 1 to REGISTRYD_ENTRIES. It begins with that of a file, or with none where `load` is null. No
- * file gets it: registryd_journal hands it out. `words` is as in registryd_open_embedded.
+ * file gets it: registryd_journal hands it out, and registryd_open_seats_journal keeps one. `words` is as in registryd_open_embedded.
  *
  * Calls for different seats wait for nothing of each other. Each line but one that is wrong in every state is answered once its seat has
  * read all entries of the others up to the first place that it finds empty: so what a call accepted is there for each call that begins
  * once that one has returned. A command is entered once, at the place and the revision that its reply tells. Seats are closed one by one,
  * in any order; the journal is gone with the last. */
 int registryd_open_seats(const char *load, size_t entries, registryd_session *seats, size_t count, char *words, size_t room);
+
+/* As registryd_open_seats, with a journal that the seats go on with, in a file as registryd_open_embedded_journal has it. A reply can be taken
+ * once the file has, for good, all entries up to the place that it tells, whoever made them. A call that finds them there waits for
+ * nothing; else it writes all that its seat sees then, and its sync serves all calls that wait meanwhile. What a search taught is written
+ * before a reply that counts it can be taken, or at the end. What registryd_journal copies may be ahead of the file. Room is only for as
+ * many commands as a session may have, 49,152, and of what searches taught the file has 16,384 lines at most: so a session of any kind
+ * goes on with it.
+ *
+ * Where a write or a sync fails, nothing more is written: each seat answers REGISTRYD_JOURNAL from then on, registryd_error tells why, and
+ * of replies only those can be taken that rest on what is in the file for good. The file gets its last line once each seat is saved or
+ * closed, and the last one that is closed frees it. */
+int registryd_open_seats_journal(const char *journal, size_t entries, registryd_session *seats, size_t count, char *words, size_t room);
 
 /* Copies the journal that a seat has seen to `room`, once it has looked for what others entered, and tells how long it is. It is a text
  * as a file has it. REGISTRYD_MEMORY says that there is no room, or no memory, and then `length` is 0; REGISTRYD_MISUSE also that the session
@@ -143,7 +155,8 @@ int registryd_save(registryd_session session);
 int registryd_error(registryd_session session, char *words, size_t room);
 
 /* Ends a session. One that was not saved leaves the file to be saved as it was; a journal that it went on with has all that
- * was told as accepted, and, of a session in process, its last line where that can be written. Its replies are dropped.
+ * was told as accepted, and, of a session in process, its last line where that can be written, or of the last of its seats. Its replies
+ * are dropped.
  *
  * Where another thread waits in a call for the session, of a child or a service that call answers REGISTRYD_ENDED at once, also amid
  * a long search; a search in process has to end by itself first. A service goes on, and may still carry out lines that it was

@@ -89,16 +89,23 @@ struct seat_slot {
     bool is_open;
 };
 
+/* The file that the seats of one journal keep it in. */
+struct seats_file;
+
 /* A seat of a journal that several share in this process. */
 struct seat {
     struct seat_slot slot;
+    /* null where the journal is kept in none */
+    struct seats_file *file;
     /* lines without an answer: whole ones up to `whole`, and then what is begun of one more */
     struct bytes lines;
     size_t whole;
-    /* the replies: those from `taken` on are not taken. The last one may be owed, where there was no room for it. */
+    /* the replies: those from `taken` on are not taken, and may be as far as they are `safe`. The last one may be owed, where there was no
+     * room for it. */
     struct bytes told;
-    size_t taken;
-    bool owes, is_ended;
+    size_t taken, safe;
+    /* whether the caller has ended the lines, and whether the file is told so */
+    bool owes, is_ended, enters_no_more;
 };
 
 struct session {
@@ -142,9 +149,10 @@ int open_child(struct session *it, const struct wanted *wanted, struct telling t
 int open_embedded(struct session *it, const struct wanted *wanted, struct telling telling);
 int open_service(struct session *it, const struct wanted *wanted, struct telling telling);
 
-/* Opens the seats of a journal with room for so many entries. It begins with the journal of a file, or with none where `load` is null. */
-int open_seats(struct seat_slot *seats, size_t count, size_t entries, const char *load, struct telling telling);
+/* Opens the seats of a journal with room for so many entries, which begins with that of a file, or goes on with it, or begins with none. */
+int open_seats(struct seat_slot *seats, size_t count, size_t entries, const struct wanted *wanted, struct seats_file **file,
+               struct telling telling);
 /* Has a session be one of these seats, in a place that is all zero. */
-void take_seat(struct session *it, const struct seat_slot *slot);
+void take_seat(struct session *it, const struct seat_slot *slot, struct seats_file *file);
 
 #endif

@@ -13,15 +13,16 @@ from unittest import mock
 
 import pytest
 
-from dev.long import fuzz, fuzz_check, interrupt_sessions, kill_sessions, newest_many, race_many
+from dev.long import fuzz, fuzz_check, interrupt_sessions, kill_seats, kill_sessions, newest_many, race_many
 from dev.long.interrupt_sessions import KNOWN, MISSING, new
 from dev.runs import Find
 from registryd import Accepted, AlreadyPublished, Ended, NoSelection, Resolve, Selection
 from registryd.child import BROKEN_OFF
 from tests.program.test_journals import CHAIN, journal, learn
-from tests.support import program, said
+from tests.support import library, program, said
 from tests.support.client_python import PYTHON
 from tests.support.made_lines import Maker
+from tests.support.plain_race import RaceFault
 from tests.support.plain_remnant import Reader
 from tests.support.program import LIST, TOP, journal_line, publish, yank
 from tests.support.reference import Registry
@@ -59,6 +60,10 @@ PRINTED = [
      r"2 kills of sessions of 2 files, the largest of 5,000 bytes, 1,030 replies read, in \d+ s; 0 finds\n"),
     (kill_sessions, "--kills", [(0, 0, 0, "seed 1: no"), (2, 1, 3, None)],
      r"seed 1: no\n2 kills of sessions of 2 files, the largest of 3 bytes, 1 replies read, in \d+ s; 1 finds\n"),
+    (kill_seats, "--kills", [(1, 1_000, 20, None), (1, 30, 5_000, None)],
+     r"2 kills of seats of 2 files, the largest of 5,000 bytes, 1,030 replies read, in \d+ s; 0 finds\n"),
+    (kill_seats, "--kills", [(0, 0, 0, "seed 1: no"), (2, 1, 3, None)],
+     r"seed 1: no\n2 kills of seats of 2 files, the largest of 3 bytes, 1 replies read, in \d+ s; 1 finds\n"),
     (interrupt_sessions, "--sessions", [(20, 30, 4_000, None)],
      r"20 sessions, 30 calls interrupted, 4,000 replies judged, in \d+ s; 0 finds\n"),
     (interrupt_sessions, "--sessions", [(20, 30, 4_000, "seed 1: no")],
@@ -76,6 +81,7 @@ def test_what_is_printed(tool, option, ends, printed, monkeypatch, capsys):
     entered.imap_unordered = lambda do, seeds: (end for _, end in zip(seeds, ends))
     monkeypatch.setattr(multiprocessing, "get_context", lambda how: pool)
     monkeypatch.setattr(race_many, "library", lambda folder: "a library")
+    monkeypatch.setattr(library, "linked", lambda to, source: to)
     monkeypatch.setattr(program, "PROGRAM", program.PROGRAM)
     monkeypatch.setattr(said, "is_noting", said.is_noting)
     assert tool.main([option, "2", "--jobs", "3", "--program", "x"]) == int("; 0 finds" not in printed)
@@ -269,6 +275,44 @@ def test_what_it_may_not(tmp_path):
         finds(told, judged, tmp_path / "journal", commands, [A1, B1], read)
     text = b"registry-journal 2\nx\n"
     finds("the file is no journal: line 2 is", judged, tmp_path / "journal", [], [A1], b"", (), text)
+
+
+# Of two seats: the first publishes a and lists, the second publishes b and yanks it.
+SEATS = [[A1.encode(), LIST.encode()], [B1.encode(), yank("b", "1.0.0").encode()]]
+OF_A, OF_B, OF_YANK = (b'{"ok":true,"place":%d,"revision":%d,"seat":%d}\n' % it
+                       for it in ((1, 1, 1), (2, 2, 2), (3, 3, 2)))
+LISTED = b'{"packages":[["a",[["1.0.0",false]]],["b",[["1.0.0",false]]]],"place":2,"revision":2,"seat":1}\n'
+
+
+def seats_judged(commands, read, before=()):
+    entries, stood = ([journal_line(line).encode() for line in of] for of in (commands, before))
+    kill_seats.judged(entries, stood, SEATS, read)
+
+
+@pytest.mark.parametrize("commands, read", [
+    ([], b""), ([A1], b""), ([A1, B1], b""), ([B1, A1], b""), ([A1], OF_A), ([A1], OF_A[:-1]), ([A1, B1], OF_B + OF_A),
+    ([A1, B1], OF_A + LISTED), ([A1, B1, yank("b", "1.0.0")], OF_B), ([A1, B1, yank("b", "1.0.0")], OF_B + OF_YANK)])
+def test_what_killed_seats_may_leave(commands, read):
+    seats_judged(commands, read)
+
+
+@pytest.mark.parametrize("commands, read, told", [
+    ([A1], OF_A + OF_B, "at place 2, and the file has 1 entries"), ([A1], LISTED, "and the file has 1 entries"),
+    ([B1], OF_A, "at place 1 stands"), ([A1, B1], OF_A.replace(b'"revision":1', b'"revision":2'), "answered"),
+    ([A1, yank("a", "1.0.0")], OF_A, "nobody was at"), ([A1, B1, yank("b", "1.0.0")], OF_A, "nobody was at"),
+    ([A1, B1], OF_A + LISTED.replace(b'["b",[["1.0.0",false]]]', b'["b",[["1.0.0",true]]]'), "answered"),
+    ([A1], OF_A * 3, "there are more replies than lines"), ([A1], b"no\n", "a reply tells no seat: no"),
+    ([A1], OF_A.replace(b'"seat":1', b'"seat":3'), "there are more replies than lines")])
+def test_what_they_may_not(commands, read, told):
+    with pytest.raises((Find, RaceFault), match=re.escape(told)):
+        seats_judged(commands, read)
+
+
+def test_what_stood_there_before_killed_seats():
+    old = publish("old", "1.0.0")
+    seats_judged([old, A1], OF_A.replace(b"1,", b"2,"), [old])
+    for commands in ([A1, old], [A1], []):
+        finds("what stood in the file before does not any more", seats_judged, commands, b"", [old])
 
 
 WELL = [ended(b"x"), ended(b"x")]

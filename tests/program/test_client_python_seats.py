@@ -90,6 +90,10 @@ class Seats(client_python.Case):
             self.addCleanup(seat.kill)
         return opened
 
+    def read(self, path):
+        with open(path, "rb") as file:
+            return file.read()
+
     def begun(self, name, text):
         with open(self.path(name), "wb") as file:
             file.write(text)
@@ -109,6 +113,59 @@ class Seats(client_python.Case):
         path = self.begun("full", text)
         self.assertEqual(self.open(1, load=path, entries=3)[0].yank("a", "1.0.0"), 3)
         self.ends(f"journal {path}: ", lambda: self.open(1, load=path, entries=1))
+
+    def test_a_journal_that_is_kept(self):
+        path = self.path("kept")
+        one, other = self.open(2, keep=path)
+        self.assertEqual((one.publish("a", "1.0.0"), other.publish("b", "1.0.0", {"a": "^1"})), (1, 2))
+        text = journal([publish("a", "1.0.0"), publish("b", "1.0.0", ["a ^1"])])
+        begun = text[:text.index(b"end")]
+        self.assertEqual((self.read(path), one.journal()), (begun, text))
+        others = lambda: Registry(embedded=True, library=LIBRARY, journal=path), lambda: self.open(1, keep=path)
+        for another in others:
+            self.ends(f"journal {path}: in use by another session", another)
+        one.close()
+        self.assertEqual(self.read(path), begun)
+        other.close()
+        self.assertEqual(self.read(path), text)
+        # a session goes on with it, and then seats
+        with Registry(embedded=True, library=LIBRARY, journal=path) as registry:
+            self.assertEqual(registry.yank("a", "1.0.0"), 3)
+        self.ends("has more entries than there is room for", lambda: self.open(1, keep=path, entries=2))
+        seat, = self.open(1, keep=path)
+        self.assertEqual((seat.list().revision, seat.place), (3, 3))
+
+    def test_a_kept_journal_that_can_not_be_written(self):
+        path = self.path("kept")
+        seats = self.open(3, keep=path)
+        self.assertEqual(seats[0].publish("a", "1.0.0"), 1)
+        whole = self.read(path)
+        with open(path, "ab") as file:
+            file.write(b"x")
+        told = f"journal {path}: changed by another program, and not gone on with"
+        for seat in (seats[1], seats[2], seats[0], seats[1]):
+            self.ends(told, lambda seat=seat: seat.publish("b", "1.0.0"))
+        for seat in seats:
+            self.ends(told, seat.close)
+        self.assertEqual((seats[0].place, self.read(path)), (1, whole + b"x"))
+        self.assertEqual(self.open(1, keep=path)[0].publish("b", "1.0.0"), 2)
+
+    def test_threads_that_keep_a_journal(self):
+        path = self.path("kept")
+        seats = self.open(8, keep=path)
+
+        def publishes(seat):
+            # each is in the file once it is told
+            return [(seat.publish(f"p{seat.number}", f"{version}.0.0"), seat.place, self.read(path).count(b"\n"))
+                    for version in range(20)]
+        with ThreadPoolExecutor(len(seats)) as threads:
+            told = [of_one for of_all in threads.map(publishes, seats) for of_one in of_all]
+        self.assertEqual(sorted(revision for revision, _, _ in told), list(range(1, 161)))
+        self.assertTrue(all(revision == place < lines for revision, place, lines in told))
+        text = seats[0].journal()
+        for seat in seats:
+            seat.close()
+        self.assertEqual(self.read(path), text)
 
     def test_a_search_holds_up_no_other_seat(self):
         one, other = self.open(2)
@@ -151,6 +208,7 @@ class Seats(client_python.Case):
     def test_what_cannot_be_asked_for(self):
         for count, entries in ((0, 1), (MOST + 1, 1), (1, 0), (1, 65_537)):
             self.assertRaises(ValueError, self.open, count, entries=entries)
+        self.assertRaises(ValueError, self.open, 1, keep=self.path("one"), load=self.path("other"))
         self.assertRaises(TypeError, self.open, "4")
 
     def test_seats_that_are_forgotten_are_closed(self):

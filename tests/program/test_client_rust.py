@@ -102,12 +102,12 @@ class Client(unittest.TestCase):
                         re.findall(r"^test result: ok\. (\d+) passed; 0 failed; 0 ignored",
                                    self.cargo(folder, "test", *words), re.M)))
 
-    def check_example(self, folder, name, journal, printed, *words):
+    def check_example(self, folder, name, journal, printed, *words, end=2):
         # the second time it goes on with its journal
         for _ in range(2):
             self.assertEqual(self.cargo(folder, "run", "--quiet", "--example", name, *words, cwd=folder).strip(),
                              printed)
-            self.assertEqual(read(folder, journal).splitlines()[-1], "end 2")
+            self.assertEqual(read(folder, journal).splitlines()[-1], f"end {end}")
 
     def test_its_tests_and_its_example(self):
         if without := why_not_built():
@@ -127,12 +127,10 @@ class Client(unittest.TestCase):
         with tempfile.TemporaryDirectory() as folder:
             beside, calls, culprits, embedded, explained, program, seats, service = self.passed(folder, *IN_PROCESS)
             # each call twice, and with a service those that take no files
-            self.assertEqual((calls, embedded, seats), (10 + 10 + 6, 4, 5))
+            self.assertEqual((calls, embedded, seats), (10 + 10 + 6, 4, 6))
             self.check_example(folder, "embedded", "rust-embedded.journal", PAGE[3], *IN_PROCESS)
-            printed = self.cargo(folder, "run", "--quiet", "--example", "seats", *IN_PROCESS, cwd=folder)
-            self.assertEqual(printed.strip(), PAGE[5])
             # 25 tools, and 25 publications and a yank of each of the four
-            self.assertEqual(read(folder, "seats.journal").splitlines()[-1], "end 129")
+            self.check_example(folder, "seats", "seats.journal", PAGE[5], *IN_PROCESS, end=129)
         print(f"({beside + calls + culprits + embedded + explained + program + seats + service} tests) ", end="")
 
     def test_a_program_that_adds_it(self):

@@ -19,9 +19,11 @@ PIECE = "100"
 
 @needs_library
 class Memory(unittest.TestCase):
+    COMPILED = ()
+
     @classmethod
     def setUpClass(cls):
-        cls.library, cls.serve = built(cls, REFUSE_MEMORY), serving(cls)
+        cls.library, cls.serve = built(cls, REFUSE_MEMORY), serving(cls, *cls.COMPILED)
 
     def refuse_each(self, words, lines):
         """Runs a session with each request refused in turn; answers what each run left, the lawful replies that it

@@ -20,12 +20,18 @@ class Told:
 
 class InProcess:
     """Has the tests of a class run so. They are skipped where there is no library."""
+    COMPILED = ()
 
     @classmethod
     def setUpClass(cls):
-        serve = serving(cls)
+        serve = serving(cls, *cls.COMPILED)
         for module in (program, durable_sessions, test_durable_files, test_saved_files):
             cls.enterClassContext(mock.patch.object(module, "PROGRAM", serve))
         for module, name in ((test_saved_files, "FAILED"), (test_durable_files, "UNSAVED")):
             cls.enterClassContext(mock.patch.object(module, name, Told()))
         super().setUpClass()
+
+
+class BySeat(InProcess):
+    """By a seat that keeps its journal in a file."""
+    COMPILED = ("-DBY_SEAT",)

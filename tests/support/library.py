@@ -61,11 +61,11 @@ def linked_with_sources(to, source, *more):
     return str(to)
 
 
-def serving(case):
-    """A program that serves lines as the program under test does, over a session in process; it lasts as long as a
-    class of tests."""
+def serving(case, *words):
+    """A program that serves lines as the program under test does, over a session in process; it is compiled with these
+    words, and lasts as long as a class of tests."""
     if not FOLDER:
         raise unittest.SkipTest(LACKING)
     folder = tempfile.TemporaryDirectory()
     case.addClassCleanup(folder.cleanup)
-    return linked(os.path.join(folder.name, "serve"), os.path.join(TESTS, "embedded_serve.c"))
+    return linked(os.path.join(folder.name, "serve"), os.path.join(TESTS, "embedded_serve.c"), *words)

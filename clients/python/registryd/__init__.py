@@ -188,9 +188,9 @@ class Registry:
 
 class Seat(Registry):
     """A session in this process that shares its journal with other seats, which are opened together by `seats`. Calls
-    of different seats run at once, and wait for nothing of each other, so each thread has a seat of its own. A seat
-    reads all that the others have entered before it answers: what a call accepted is there for each call that begins
-    once that one has returned."""
+    of different seats run at once, and wait for nothing of each other but a sync of the file, so each thread has a seat
+    of its own. A seat reads all that the others have entered before it answers: what a call accepted is there for each
+    call that begins once that one has returned."""
     _session: Seated
 
     def __init__(self, session: Seated, number: int) -> None:
@@ -205,16 +205,23 @@ class Seat(Registry):
 
     def journal(self) -> bytes:
         """The journal with all that the seat has seen, as a file has it. Once no call of another seat is under way,
-        that is the whole journal."""
+        that is the whole journal. What is kept in a file may be behind it."""
         return self._session.journal()
 
 
-def seats(count: int, *, load: FilePath | None = None, entries: int = 65_536,
+def seats(count: int, *, keep: FilePath | None = None, load: FilePath | None = None, entries: int = 65_536,
           library: FilePath | None = None) -> list[Seat]:
-    """Opens 1 to 64 seats of one journal, which begins with that of the file `load`, or with none. No file gets it:
-    `Seat.journal` tells it, and it is gone once the last seat is closed. It has room for so many entries, which are
-    commands and what searches taught: where that is used up, commands raise `JournalFull`, and requests are answered
-    as before. `library` is as for a `Registry`."""
+    """Opens 1 to 64 seats of one journal. `keep` is the file that it is kept in, made where it is not there: it has,
+    for good, whatever a reply tells or rests on before the call returns, and calls that wait for that at once share a
+    sync. Where the file can't be written, each seat raises `Ended` from then on; it has its last line once all seats
+    are closed. Else the journal begins with that of the file `load`, or with none, and no file gets it: `Seat.journal`
+    tells it, and it is gone once the last seat is closed.
+
+    It has room for so many entries, which are commands and what searches taught: where that is used up, commands raise
+    `JournalFull`, and requests are answered as before. `library` is as for a `Registry`."""
+    if keep is not None and load is not None:
+        raise ValueError("seats that keep their journal in a file load none")
     number_of(count, "count", 1, 64)
     number_of(entries, "entries", 1, 65_536)
-    return [Seat(session, number) for number, session in enumerate(open_seats(library, count, load, entries), 1)]
+    opened = open_seats(library, count, keep, load, entries)
+    return [Seat(session, number) for number, session in enumerate(opened, 1)]

@@ -33,6 +33,7 @@ CALLS = {
     "open_embedded": (ctypes.c_char_p, ctypes.c_char_p, ctypes.POINTER(NUMBER), ctypes.c_char_p, SIZE),
     "open_embedded_journal": (ctypes.c_char_p, ctypes.POINTER(NUMBER), ctypes.c_char_p, SIZE),
     "open_seats": (ctypes.c_char_p, SIZE, ctypes.POINTER(NUMBER), SIZE, ctypes.c_char_p, SIZE),
+    "open_seats_journal": (ctypes.c_char_p, SIZE, ctypes.POINTER(NUMBER), SIZE, ctypes.c_char_p, SIZE),
     "journal": (NUMBER, ctypes.c_char_p, SIZE, PLACE),
     "stamp": (ctypes.c_char_p, SIZE, ctypes.POINTER(Stamp)),
     "ask": (NUMBER, ctypes.c_char_p, SIZE, ctypes.c_char_p, SIZE, PLACE, PLACE),
@@ -185,8 +186,9 @@ class Seated(Embedded):
     _last = b""  # the last replies
 
     def _exchanged(self, lines: bytes) -> tuple[bytes, str]:
-        self._last, fault = super()._exchanged(lines)
-        return self._last, fault
+        replies, fault = super()._exchanged(lines)
+        self._last = replies or self._last
+        return replies, fault
 
     def place(self) -> int:
         line, stamp = self._last[self._last.rfind(b"\n", 0, -1) + 1:], Stamp()
@@ -220,9 +222,11 @@ def open_session(library: FilePath | None, journal: FilePath | None, load: FileP
     return Embedded(found, number.value)
 
 
-def open_seats(library: FilePath | None, count: int, load: FilePath | None, entries: int) -> list[Seated]:
+def open_seats(library: FilePath | None, count: int, keep: FilePath | None, load: FilePath | None,
+               entries: int) -> list[Seated]:
     found, numbers, words = loaded(library_path(library)), (NUMBER * count)(), ctypes.create_string_buffer(MOST_WORDS)
-    if answered := found.registryd_open_seats(bytes_of(load), entries, numbers, count, words, MOST_WORDS):
+    opening = found.registryd_open_seats if keep is None else found.registryd_open_seats_journal
+    if answered := opening(bytes_of(load if keep is None else keep), entries, numbers, count, words, MOST_WORDS):
         raise Ended(told_by(answered, words))
     return [Seated(found, number) for number in numbers]
 

@@ -1,25 +1,28 @@
-use registryd::{seats, Error, Refusal, Resolve, Seat, Selected};
+use registryd::{kept_seats, Error, Refusal, Resolve, Seat, Selected};
 
-/// Publishes what is built, withdraws what is wrong, and asks which builds fit together.
-fn build(mut seat: Seat, part: &str) -> Result<(Seat, Selected), Error> {
-    for patch in 0..25 {
-        match seat.publish("tool", &format!("1.{patch}.0"), &[]) {
-            // by another thread, at once or before this one
-            Ok(_) | Err(Error::Refused { refusal: Refusal::AlreadyPublished, .. }) => {}
-            Err(other) => return Err(other),
-        }
-        seat.publish(part, &format!("1.0.{patch}"), &[("tool", &format!("^1.{patch}"))])?;
+/// Another thread may have done it, or a run before this one.
+fn done(answer: Result<u64, Error>) -> Result<(), Error> {
+    match answer {
+        Ok(_) | Err(Error::Refused { refusal: Refusal::AlreadyPublished | Refusal::AlreadyYanked, .. }) => Ok(()),
+        Err(other) => Err(other),
     }
-    seat.yank(part, "1.0.24")?;
-    let selected = seat.resolve(Resolve { needs: &[(part, "^1")], ..Resolve::default() })?;
-    Ok((seat, selected))
 }
 
-fn main() -> Result<(), Box<dyn std::error::Error>> {
-    let cache = seats(4, None, 4096)?.into_iter().zip(["app", "log", "net", "web"]);
+/// Publishes what is built, withdraws what is wrong, and asks which builds fit together.
+fn build(mut seat: Seat, part: &str) -> Result<Selected, Error> {
+    for patch in 0..25 {
+        done(seat.publish("tool", &format!("1.{patch}.0"), &[]))?;
+        done(seat.publish(part, &format!("1.0.{patch}"), &[("tool", &format!("^1.{patch}"))]))?;
+    }
+    done(seat.yank(part, "1.0.24"))?;
+    seat.resolve(Resolve { needs: &[(part, "^1")], ..Resolve::default() })
+}
+
+fn main() -> Result<(), Error> {
+    let cache = kept_seats(4, "seats.journal".as_ref(), 4096)?.into_iter().zip(["app", "log", "net", "web"]);
     let threads: Vec<_> = cache.map(|(seat, part)| std::thread::spawn(move || build(seat, part))).collect();
-    let built = threads.into_iter().map(|it| it.join().expect("no thread panics")).collect::<Result<Vec<_>, _>>()?;
-    built.iter().for_each(|(_, selected)| println!("{selected:?}"));
-    std::fs::write("seats.journal", built[0].0.journal()?)?;
+    for thread in threads {
+        println!("{:?}", thread.join().expect("no thread panics")?);
+    }
     Ok(())
 }

@@ -30,6 +30,7 @@ extern "C" {
     fn registryd_open_embedded(load: *const c_char, save: *const c_char, session: *mut u64, words: *mut c_char, room: usize) -> c_int;
     fn registryd_open_embedded_journal(journal: *const c_char, session: *mut u64, words: *mut c_char, room: usize) -> c_int;
     fn registryd_open_seats(load: *const c_char, entries: usize, seats: *mut u64, count: usize, words: *mut c_char, room: usize) -> c_int;
+    fn registryd_open_seats_journal(journal: *const c_char, entries: usize, seats: *mut u64, count: usize, words: *mut c_char, room: usize) -> c_int;
     fn registryd_journal(seat: u64, room: *mut c_char, size: usize, length: *mut usize) -> c_int;
     fn registryd_stamp(line: *const c_char, length: usize, stamp: *mut Stamp) -> c_int;
     fn registryd_ask(
@@ -56,12 +57,18 @@ pub(crate) struct Embedded {
     told: Vec<u8>,
 }
 
-/// Opens so many seats of one journal.
-pub(crate) fn open_seats(count: usize, load: Option<&Path>, entries: usize) -> Result<Vec<Embedded>, Ended> {
-    let load = text(&load)?;
+/// Opens so many seats of one journal, which is kept in a file, or begins with that of another one, or with none.
+pub(crate) fn open_seats(count: usize, keep: Option<&Path>, load: Option<&Path>, entries: usize) -> Result<Vec<Embedded>, Ended> {
+    let (keep, load) = (text(&keep)?, text(&load)?);
     let mut sessions = [0; MOST_SEATS];
+    let seats = sessions.as_mut_ptr();
     // the text ends with a 0 and outlives the call, which refuses to open more seats than there is room for
-    told(|words, room| unsafe { registryd_open_seats(at(&load), entries, sessions.as_mut_ptr(), count, words, room) })?;
+    told(|words, room| unsafe {
+        match keep {
+            Some(_) => registryd_open_seats_journal(at(&keep), entries, seats, count, words, room),
+            None => registryd_open_seats(at(&load), entries, seats, count, words, room),
+        }
+    })?;
     Ok(sessions[..count].iter().map(|it| Embedded::of(*it)).collect())
 }
 

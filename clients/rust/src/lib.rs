@@ -1,6 +1,6 @@
 //! A client of registryd: it asks a registry by lines, and answers with values. [`Registry::open`] starts the program as a
 //! child; with the feature `embedded`, `Registry::embedded` begins a session in this process, over the library libregistryd,
-//! and `seats` opens several that share one journal, each for a thread of its own; [`Registry::connect`] begins a session with
+//! and `seats` or `kept_seats` several that share one journal, each for a thread of its own; [`Registry::connect`] begins a session with
 //! a service, which many clients share.
 //!
 //! A call waits for its reply. [`Registry::many`] sends any number of lines without waiting between them, and resolve lines
@@ -29,5 +29,5 @@ pub use refusal::Refusal;
 pub use reply::{Packages, Reply, Selected, Why};
 pub use request::{Pairs, Request, Resolve};
 #[cfg(feature = "embedded")]
-pub use seat::{seats, Seat};
+pub use seat::{kept_seats, seats, Seat};
 pub use session::{Ended, Error, Options, Registry};

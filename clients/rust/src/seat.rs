@@ -4,9 +4,9 @@ use std::path::Path;
 use crate::embedded;
 use crate::{Error, Registry};
 
-/// A session in this process that shares its journal with other seats, which are opened together by [`seats`]: it has the
-/// calls of [`Registry`]. Calls of different seats run at once, and wait for nothing of each other, so each thread takes a
-/// seat of its own. One that is dropped is closed.
+/// A session in this process that shares its journal with other seats, which are opened together by [`seats`] or
+/// [`kept_seats`]: it has the calls of [`Registry`]. Calls of different seats run at once, and wait for nothing of each other
+/// but a sync of the file, so each thread takes a seat of its own. One that is dropped is closed.
 ///
 /// A seat reads all that the others have entered before it answers: what a call accepted is there for each call that begins
 /// once that one has returned.
@@ -19,10 +19,20 @@ pub struct Seat {
 /// taught. Where the room is used up, commands are refused by `JournalFull`, and requests are answered as before.
 ///
 /// The journal begins with that of the file `load`, or with none. No file gets it: [`Seat::journal`] tells it, and it is gone
-/// with the last of its seats.
+/// with the last of its seats. [`kept_seats`] have a file.
 pub fn seats(count: usize, load: Option<&Path>, entries: usize) -> Result<Vec<Seat>, Error> {
-    let opened = embedded::open_seats(count, load, entries)?.into_iter().enumerate();
-    Ok(opened.map(|(place, it)| Seat { registry: Registry::of(it), number: place + 1 }).collect())
+    numbered(embedded::open_seats(count, None, load, entries)?)
+}
+
+/// Opens seats as [`seats`] does, with a journal that they go on with, in a file that is made where it is not there: it has, for
+/// good, whatever a reply tells or rests on before the call returns, and calls that wait for that at once share a sync. Where the
+/// file can't be written, each seat answers [`Error::Ended`] from then on. It has its last line once all seats are closed.
+pub fn kept_seats(count: usize, journal: &Path, entries: usize) -> Result<Vec<Seat>, Error> {
+    numbered(embedded::open_seats(count, Some(journal), None, entries)?)
+}
+
+fn numbered(opened: Vec<embedded::Embedded>) -> Result<Vec<Seat>, Error> {
+    Ok(opened.into_iter().enumerate().map(|(place, it)| Seat { registry: Registry::of(it), number: place + 1 }).collect())
 }
 
 impl Seat {

@@ -9,7 +9,7 @@ use std::path::Path;
 use std::thread;
 
 use common::{file, needs, told};
-use registryd::{seats, Error, Options, Refusal, Registry, Request, Seat, Selected};
+use registryd::{kept_seats, seats, Error, Options, Refusal, Registry, Request, Seat, Selected};
 
 const fn is_send<T: Send>() {}
 const _: () = is_send::<Seat>();
@@ -56,6 +56,31 @@ fn a_journal_that_is_full() {
     assert_eq!(seats(1, Some(&path), 3).unwrap()[0].yank("a", "1.0.0"), Ok(3));
     let words = told(open(1, Some(&path), 1));
     assert!(words.starts_with(&format!("journal {}: ", path.display())), "{words}");
+}
+
+#[test]
+fn a_journal_that_is_kept() {
+    let path = file("kept.journal");
+    let mut all = kept_seats(2, &path, 65_536).unwrap();
+    assert_eq!(all[0].publish("a", "1.0.0", &[]), Ok(1));
+    assert_eq!(all[1].publish("b", "1.0.0", &[("a", "^1")]), Ok(2));
+    let (whole, begun) = (FULL.to_string(), FULL.replace("end 2\n", ""));
+    assert_eq!((fs::read_to_string(&path).unwrap(), all[0].journal()), (begun.clone(), Ok(whole)));
+    let words = told(kept_seats(1, &path, 65_536).map(|it| it.len()));
+    assert_eq!(words, format!("journal {}: in use by another session", path.display()));
+    assert_eq!(all.remove(0).close(), Ok(()));
+    assert_eq!(fs::read_to_string(&path).unwrap(), begun);
+    drop(all);
+    assert_eq!(fs::read_to_string(&path).unwrap(), FULL);
+    // it is gone on with, and what the file does not get is not told
+    let mut all = kept_seats(2, &path, 65_536).unwrap();
+    assert_eq!((all[1].yank("a", "1.0.0"), all[0].place()), (Ok(3), 0));
+    fs::remove_file(&path).unwrap();
+    let words = format!("journal {}: changed by another program, and not gone on with", path.display());
+    for seat in &mut all {
+        assert_eq!(told(seat.unyank("a", "1.0.0")), words);
+    }
+    assert_eq!(told(all.remove(1).close()), words);
 }
 
 #[test]

@@ -20,6 +20,8 @@ const MOST_COMPARED_NEEDS: usize = 8;
 pub struct Dependencies {
     listed: Arc<Vec<(Name, Need)>, Global>,
     repeats: bool,
+    /// Whether its texts are those that a registry keeps. Registries that carry out the same commands share such a list.
+    is_kept: bool,
 }
 
 impl Model for Dependencies {
@@ -42,6 +44,7 @@ impl Clone for Dependencies {
         Ok(Dependencies {
             listed: Arc::try_clone(&self.listed)?,
             repeats: self.repeats,
+            is_kept: self.is_kept,
         })
     }
 }
@@ -55,6 +58,7 @@ impl Dependencies {
         Ok(Dependencies {
             listed: Arc::new(alloc, needs)?,
             repeats,
+            is_kept: false,
         })
     }
 
@@ -72,7 +76,7 @@ impl Dependencies {
         self.repeats
     }
 
-    /// The same list, kept in these handles of equal texts.
+    /// The same list in these handles, which are of texts that a registry keeps; in its own where they are, too.
     pub(crate) fn with_handles(
         &self,
         alloc: Global,
@@ -81,9 +85,13 @@ impl Dependencies {
         requires { needs.items ≡ self.now }
         ensures { IfOk result (λ dependencies. dependencies ≡ self.now) }
     {
+        if self.is_kept {
+            return self.clone();
+        }
         Ok(Dependencies {
             listed: Arc::new(alloc, needs)?,
             repeats: self.repeats,
+            is_kept: true,
         })
     }
 }

@@ -2,6 +2,8 @@
  * `threads`. */
 #include "c_calls.h"
 
+#include <signal.h>
+#include <sys/resource.h>
 #include <sys/wait.h>
 #include <unistd.h>
 
@@ -218,16 +220,184 @@ static void wrong_journals(void)
     WANT(!strncmp(words, "journal none.journal: can't be opened", 37));
 }
 
+/* ---- seats that keep their journal in a file */
+
+static const char begun_a[] = "registry-journal 2\n{\"name\":\"a\",\"needs\":[],\"op\":\"publish\",\"version\":\"1.0.0\"}\n";
+static const char line_b[] = "{\"name\":\"b\",\"needs\":[],\"op\":\"publish\",\"version\":\"1.0.0\"}\n";
+static const char accepted[] = "{\"ok\":true,\"place\":%d,\"revision\":%d,\"seat\":%d}\n";
+
+static void kept(const char *journal, registryd_session *seats, size_t count)
+{
+    WANT(registryd_open_seats_journal(journal, 16, seats, count, words, sizeof words) == REGISTRYD_OK && words[0] == '\0');
+}
+
+/* It can't be opened, and these words say why. */
+static void not_kept(const char *journal, size_t entries, const char *why)
+{
+    registryd_session seats[2] = {5, 5};
+    char wanted[256];
+    WANT(registryd_open_seats_journal(journal, entries, seats, 2, words, sizeof words) == REGISTRYD_JOURNAL && seats[0] == 5);
+    snprintf(wanted, sizeof wanted, "journal %s: %s", journal, why);
+    WANT(!strcmp(words, wanted));
+}
+
+static void accepts(registryd_session seat, const char *line, int place, int number)
+{
+    char wanted[128];
+    snprintf(wanted, sizeof wanted, accepted, place, place, number);
+    answered(seat, line, wanted);
+}
+
+/* A file has these texts, one behind another. */
+static void has_file(const char *name, const char *first, const char *second, const char *third)
+{
+    static char text[65536], wanted[65536];
+    FILE *file = fopen(name, "rb");
+    WANT(file != NULL);
+    text[fread(text, 1, sizeof text - 1, file)] = '\0';
+    fclose(file);
+    snprintf(wanted, sizeof wanted, "%s%s%s", first, second, third);
+    WANT(!strcmp(text, wanted));
+}
+
+/* The seat takes no lines, and says why; what it has told is not taken back. */
+static void is_at_fault(registryd_session seat, const char *line, const char *why)
+{
+    char text[512];
+    size_t length = 7, left = 7;
+    WANT(registryd_ask(seat, line, strlen(line), text, sizeof text, &length, &left) == REGISTRYD_JOURNAL && !length && !left);
+    WANT(registryd_take(seat, text, sizeof text, &length, &left) == REGISTRYD_JOURNAL && !length && !left);
+    WANT(registryd_error(seat, words, sizeof words) == REGISTRYD_OK && !strcmp(words, why));
+}
+
+/* What is told stands in the file, by whichever seat; it has its last line with the last one that is saved or closed. */
+static void kept_journals(void)
+{
+    registryd_session seats[3];
+    for (int order = 0; order < 6; order++) {
+        int first = order % 3, second = (first + 1 + order / 3) % 3, third = 3 - first - second;
+        unlink("k.journal");
+        kept("k.journal", seats, 3);
+        accepts(seats[0], publish, 1, 1);
+        has_file("k.journal", begun_a, "", "");
+        accepts(seats[2], publish_b, 2, 3);
+        has_file("k.journal", begun_a, line_b, "");
+        answered(seats[1], resolve, "{\"place\":2,\"revision\":2,\"seat\":2,\"selected\":[[\"a\",\"1.0.0\"]]}\n");
+        not_kept("k.journal", 16, "in use by another session");
+        if (order % 2)
+            WANT(registryd_save(seats[first]) == REGISTRYD_OK);
+        closed(seats[first]);
+        has_file("k.journal", begun_a, line_b, "");
+        WANT(registryd_save(seats[second]) == REGISTRYD_OK && registryd_save(seats[second]) == REGISTRYD_OK);
+        WANT(registryd_feed(seats[second], list, strlen(list)) == REGISTRYD_MISUSE);
+        accepts(seats[third], "{\"op\":\"yank\",\"name\":\"b\",\"version\":\"1.0.0\"}\n", 3, third + 1);
+        has_file("k.journal", begun_a, line_b, "{\"name\":\"b\",\"op\":\"yank\",\"version\":\"1.0.0\"}\n");
+        WANT(order % 2 || registryd_save(seats[third]) == REGISTRYD_OK);
+        not_kept("k.journal", 16, "in use by another session");
+        closed(seats[third]);
+        closed(seats[second]);
+        has_file("k.journal", begun_a, line_b, "{\"name\":\"b\",\"op\":\"yank\",\"version\":\"1.0.0\"}\nend 3\n");
+    }
+    not_kept("k.journal", 2, "has more entries than there is room for");
+    has_file("k.journal", begun_a, line_b, "{\"name\":\"b\",\"op\":\"yank\",\"version\":\"1.0.0\"}\nend 3\n");
+    /* and is gone on with */
+    kept("k.journal", seats, 2);
+    answered(seats[1], publish_b, "{\"error\":7,\"name\":\"AlreadyPublished\",\"place\":3,\"revision\":3,\"seat\":2}\n");
+    accepts(seats[0], "{\"op\":\"unyank\",\"name\":\"b\",\"version\":\"1.0.0\"}\n", 4, 1);
+    closed(seats[0]);
+    closed(seats[1]);
+    WANT(registryd_open_seats_journal(NULL, 16, seats, 2, words, sizeof words) == REGISTRYD_MISUSE && words[0]);
+    WANT(registryd_open_seats_journal("k.journal", 0, seats, 2, NULL, 0) == REGISTRYD_MISUSE);
+}
+
+/* A file is cut behind each byte of its last two lines: seats go on with what stands there in whole lines. */
+static void torn_files(void)
+{
+    registryd_session seats[2];
+    char text[512];
+    snprintf(text, sizeof text, "%s%send 2\n", begun_a, line_b);
+    for (size_t cut = strlen(text); cut >= strlen(begun_a); text[--cut] = '\0') {
+        write_file("t.journal", text);
+        kept("t.journal", seats, 2);
+        int is_whole = cut >= strlen(begun_a) + strlen(line_b);
+        has_file("t.journal", begun_a, is_whole ? line_b : "", "");
+        if (!is_whole)
+            accepts(seats[1], publish_b, 2, 2);
+        closed(seats[0]);
+        closed(seats[1]);
+        has_file("t.journal", begun_a, line_b, "end 2\n");
+    }
+    write_file("w.journal", "registry-journal 2\n{\"name\":\"a\"}\nend 1\n");
+    not_kept("w.journal", 16, "line 2 is not a journal's, and nothing was changed");
+    has_file("w.journal", "registry-journal 2\n{\"name\":\"a\"}\nend 1\n", "", "");
+}
+
+static void changes(void)
+{
+    FILE *file = fopen("c.journal", "ab");
+    WANT(file && fputs("x", file) != EOF && !fclose(file));
+}
+
+/* Has no file of the process be longer than so. */
+static void limit_files(rlim_t most)
+{
+    WANT(!setrlimit(RLIMIT_FSIZE, &(struct rlimit){most, RLIM_INFINITY}));
+}
+
+static void fills_up(void)
+{
+    signal(SIGXFSZ, SIG_IGN);
+    limit_files(strlen(begun_a) + 10);
+}
+
+/* Where the file can't be gone on with, each seat says so, whichever met it; none tells what is not there, and the next seats go on. */
+static void files_at_fault(void)
+{
+    static const struct { void (*happens)(void); const char *why, *left; } all[] = {
+        {changes, "journal c.journal: changed by another program, and not gone on with", "x"},
+        {fills_up, "journal c.journal: can't be written: File too large (os error 27)", "{\"name\":\"b"},
+    };
+    for (size_t i = 0; i < sizeof all / sizeof *all; i++) {
+        registryd_session seats[3];
+        char text[512];
+        size_t length, left;
+        unlink("c.journal");
+        kept("c.journal", seats, 3);
+        /* this reply is told, and taken later */
+        fed(seats[0], publish);
+        has_file("c.journal", begun_a, "", "");
+        all[i].happens();
+        is_at_fault(seats[1], publish_b, all[i].why);
+        WANT(registryd_take(seats[0], text, sizeof text, &length, &left) == REGISTRYD_JOURNAL && !left);
+        WANT(length == strlen("{\"ok\":true,\"place\":1,\"revision\":1,\"seat\":1}\n"));
+        is_at_fault(seats[0], list, all[i].why);
+        is_at_fault(seats[2], list, all[i].why);
+        WANT(registryd_save(seats[2]) == REGISTRYD_JOURNAL);
+        WANT(registryd_journal(seats[2], text, sizeof text, &length) == REGISTRYD_OK);
+        for (int seat = 0; seat < 3; seat++)
+            closed(seats[seat]);
+        limit_files(RLIM_INFINITY);
+        has_file("c.journal", begun_a, all[i].left, "");
+        kept("c.journal", seats, 1);
+        accepts(seats[0], publish_b, 2, 1);
+        closed(seats[0]);
+        has_file("c.journal", begun_a, line_b, "end 2\n");
+    }
+}
+
 /* ---- forks */
 
-/* A forked process has no seats, and may open its own. */
-static void forks(void)
+/* A forked process has no seats, and may open its own; it leaves a file alone, and ends as it likes. */
+static void forks(const char *journal)
 {
     registryd_session seats[2];
     char text[8];
     size_t length;
     int status;
-    opened(NULL, 8, seats, 2);
+    if (journal)
+        kept(journal, seats, 2);
+    else
+        opened(NULL, 8, seats, 2);
     answered(seats[0], publish, "{\"ok\":true,\"place\":1,\"revision\":1,\"seat\":1}\n");
     pid_t child = fork();
     WANT(child >= 0);
@@ -242,13 +412,25 @@ static void forks(void)
         answered(own[1], list, "{\"packages\":[],\"place\":0,\"revision\":0,\"seat\":2}\n");
         closed(own[0]);
         closed(own[1]);
+        if (journal)
+            not_kept(journal, 8, "in use by another session");
         fflush(stdout);
         _exit(0);
     }
     WANT(waitpid(child, &status, 0) == child && status == 0);
+    /* one that only ends writes nothing either */
+    child = fork();
+    WANT(child >= 0);
+    if (!child)
+        exit(0);
+    WANT(waitpid(child, &status, 0) == child && status == 0);
     has_journal(seats[1], journal_a);
+    if (journal)
+        has_file(journal, begun_a, "", "");
     closed(seats[0]);
     closed(seats[1]);
+    if (journal)
+        has_file(journal, journal_a, "", "");
 }
 
 /* ---- threads */
@@ -295,16 +477,23 @@ static void run(void *(*what)(void *))
         WANT(!pthread_join(all[i], NULL));
 }
 
-static void threads(void)
+static void threads(const char *journal)
 {
     char text[65536];
     size_t length;
-    opened(NULL, REGISTRYD_ENTRIES, shared, THREADS);
+    if (journal)
+        WANT(registryd_open_seats_journal(journal, REGISTRYD_ENTRIES, shared, THREADS, words, sizeof words) == REGISTRYD_OK);
+    else
+        opened(NULL, REGISTRYD_ENTRIES, shared, THREADS);
     run(works);
     /* a thread has ended, and its seat goes on in this one */
     WANT(registryd_journal(shared[3], text, sizeof text, &length) == REGISTRYD_OK);
     WANT(length > 8 && !memcmp(text + length - 8, "end 480\n", 8));
     run(closes);
+    if (journal) {
+        text[length] = '\0';
+        has_file(journal, text, "", "");
+    }
 }
 
 int main(int count, char **given)
@@ -319,10 +508,15 @@ int main(int count, char **given)
         culprits();
         full_journals();
         wrong_journals();
+        kept_journals();
+        torn_files();
+        files_at_fault();
     } else if (!strcmp(given[1], "forks")) {
-        forks();
+        forks(NULL);
+        forks("f.journal");
     } else {
-        threads();
+        threads(NULL);
+        threads("threads.journal");
     }
     return 0;
 }
