@@ -109,7 +109,8 @@ class Seats:
 
     def lines(self, seat, behind, size=10_000):
         """The status, how long the lines are, the place, and what stands in the room."""
-        room, length, place = ctypes.create_string_buffer(b"-" * size, size + 1), ctypes.c_size_t(77), ctypes.c_size_t(88)
+        room = ctypes.create_string_buffer(b"-" * size, size + 1)
+        length, place = ctypes.c_size_t(77), ctypes.c_size_t(88)
         status = self.call("seat_lines", ctypes.byref(self.slots[seat]), ctypes.c_size_t(behind), room,
                            ctypes.c_size_t(size), ctypes.byref(length), ctypes.byref(place))
         return status, length.value, place.value, room.raw[:size].rstrip(b"-")
