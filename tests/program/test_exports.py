@@ -99,6 +99,22 @@ class Seats:
         status = self.call("seats_load", self.slots, ctypes.c_size_t(count), *given, ctypes.c_size_t(capacity))
         return status, line.value
 
+    def recover(self, text, count=2, capacity=8):
+        """The status, how many bytes are kept, and the line at fault."""
+        kept, line = ctypes.c_size_t(5), ctypes.c_size_t(6)
+        given = ctypes.create_string_buffer(text, len(text) or 1), ctypes.c_size_t(len(text))
+        status = self.call("seats_recover", self.slots, ctypes.c_size_t(count), *given, ctypes.byref(kept),
+                           ctypes.byref(line), ctypes.c_size_t(capacity))
+        return status, kept.value, line.value
+
+    def lines(self, seat, behind, size=10_000):
+        """The status, how long the lines are, the place, and what stands in the room."""
+        room = ctypes.create_string_buffer(b"-" * size, size + 1)
+        length, place = ctypes.c_size_t(77), ctypes.c_size_t(88)
+        status = self.call("seat_lines", ctypes.byref(self.slots[seat]), ctypes.c_size_t(behind), room,
+                           ctypes.c_size_t(size), ctypes.byref(length), ctypes.byref(place))
+        return status, length.value, place.value, room.raw[:size].rstrip(b"-")
+
     def text(self, name, seat, line=None, size=10_000):
         """A call that gives a text, for a seat, which are counted from 0: the status, how long it is, and what stands
         in the room."""
@@ -226,6 +242,7 @@ class SeatExports(OverHeap):
         for _ in range(2):
             given = [seats.text("ask", 0, LIST), seats.text("reply", 0), seats.text("journal", 0)]
             self.assertEqual(given, [(MISUSE, 77, b"")] * 3)
+            self.assertEqual(seats.lines(0, 0), (MISUSE, 77, 88, b""))
             self.assertEqual((seats.close(0), seats.open(2), seats.close(1), seats.close(0)), (MISUSE, OK, OK, OK))
 
     def test_what_can_not_be_opened(self):
@@ -233,6 +250,7 @@ class SeatExports(OverHeap):
         for count, capacity in ((0, 8), (65, 8), (1, 0), (1, 65_537)):
             loaded = seats.load(self.WHOLE, count, capacity)
             self.assertEqual((seats.open(count, capacity), loaded), (MISUSE, (MISUSE, 5)))
+            self.assertEqual(seats.recover(self.WHOLE, count, capacity), (MISUSE, 5, 6))
         self.assertEqual((seats.open(64, 65_536), seats.open(64)), (OK, MISUSE))
         self.assertEqual(seats.load(self.WHOLE, 64), (MISUSE, 5))
         # one that holds a seat is enough
@@ -256,6 +274,64 @@ class SeatExports(OverHeap):
         both = HEAD + PUBLISHED + PUBLISHED.replace(b"1.0.0", b"2.0.0") + b"end 2\n"
         self.assertEqual((seats.load(both, 1, 1), seats.load(both, 1, 2)), ((FULL, 5), (OK, 5)))
         self.assertEqual(seats.text("journal", 0), self.given(both))
+
+    def test_the_lines_behind_a_place(self):
+        seats, second = self.seats, PUBLISHED.replace(b"1.0.0", b"2.0.0")
+        both = PUBLISHED + second
+        self.assertEqual((seats.open(2), seats.lines(0, 0), seats.lines(0, 1)),
+                         (OK, (OK, 0, 0, b""), (MISUSE, 77, 88, b"")))
+        reply = seats.text("ask", 0, PUBLISH)
+        seats.text("ask", 1, self.SECOND)
+        # the first seat has not looked since
+        self.assertEqual(seats.lines(0, 3), (MISUSE, 77, 88, b""))
+        for seat in range(2):
+            given = [seats.lines(seat, behind) for behind in range(4)]
+            self.assertEqual(given, [(OK, len(both), 2, both), (OK, len(second), 2, second), (OK, 0, 2, b""),
+                                     (MISUSE, 77, 88, b"")])
+        self.assertEqual((seats.lines(0, 1, len(second)), seats.lines(0, 1, len(second) - 1), seats.lines(0, 0, 0)),
+                         ((OK, len(second), 2, second), (OK, len(second), 2, b""), (OK, len(both), 2, b"")))
+        self.assertEqual(seats.text("reply", 0), reply)
+
+    def test_a_kept_journal_that_was_cut_short(self):
+        seats, held, whole = self.seats, Held(self.library), HEAD + PUBLISHED + PUBLISHED.replace(b"1.0.0", b"2.0.0")
+        for text in [whole[:size] for size in range(len(whole) + 1)] + [self.WHOLE, b"x", HEAD + b"x\n" + PUBLISHED]:
+            self.assertEqual(seats.recover(text), held.given("recover", text, 5, 6))
+            status, length, given = held.text("journal")
+            self.assertEqual(seats.text("journal", 0), (status, length, given))
+            if status == OK:
+                lines = given[len(HEAD):given.index(b"end ")]
+                self.assertEqual(seats.lines(0, 0), (OK, len(lines), lines.count(b"\n"), lines))
+            self.assertEqual([seats.close(1), seats.close(0)], [held.call("close")] * 2)
+        self.assertEqual(seats.recover(whole, 1, 1), (FULL, 5, 6))
+        self.assertEqual((seats.recover(whole, 1, 2), seats.recover(whole)), ((OK, len(whole), 6), (MISUSE, 5, 6)))
+
+    def test_each_request_for_memory_of_a_kept_journal_is_refused(self):
+        told = {"none": 0, "lines": 0}
+        refused = self.refuse_each(lambda: self.kept_scenario(told))
+        self.assertTrue(all(told.values()), told)
+        print(f"({refused} requests: {told}) ", end="")
+
+    def kept_scenario(self, told):
+        """Two seats begin with what was kept, and one gives its lines; answers how that ended."""
+        seats, text = self.seats, HEAD + PUBLISHED
+        try:
+            given = seats.recover(text + b"x")
+            if given[0]:
+                self.assertEqual((given, seats.close(0), seats.close(1)), ((MEMORY, 5, 6), MISUSE, MISUSE))
+                told["none"] += 1
+                return "none"
+            self.assertEqual(given, (OK, len(text), 6))
+            given = seats.lines(1, 0)
+            if given[0]:
+                self.assertEqual(given, (MEMORY, 77, 88, b""))
+                told["lines"] += 1
+                given = seats.lines(1, 0)
+            self.assertEqual(given, (OK, len(PUBLISHED), 1, PUBLISHED))
+            return "all"
+        finally:
+            seats.close(0)
+            seats.close(1)
+            self.assertEqual(self.number("blocks", ctypes.c_long).value, 0)
 
     def test_each_request_for_memory_is_refused(self):
         told = {"none": 0, "short": 0, "owed": 0, "text": 0}

@@ -9,8 +9,9 @@ from tests.support.program import TOP
 TAKES_NONE = {"registry::Registry::check", "store::Store::check", "book::Replica::check", "book::Replica::judge"}
 # A race makes this one, and each of its requests is refused there (`test_memory.py`).
 OF_RACES = {"journals::can_be_saved"}
-# Nothing here makes this one, which is for programs that are done with a seat: `Mark::entries` lends the same.
-OF_CALLERS = {"chronicle::Seat::journal"}
+# No program here makes these. The first is made by the exports (`test_exports.py`); the second is for programs that are
+# done with a seat: `Mark::entries` lends the same.
+OF_CALLERS = {"chronicle::Mark::entries_from", "chronicle::Seat::journal"}
 # What the probe stands on, what is tried through the calls of the registry and of the solver, and what is tried through
 # the lines of the program (`test_memory.py`).
 NO_PART = {"rows", "engine", "propagation", "intake", "answers", "session", "race", "command_line"}

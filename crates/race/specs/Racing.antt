@@ -1,5 +1,5 @@
 -- The seats of a race: their ways as backends, what they answer, and what a race prints.
-use Rattle.std.specs.Prelude.{◌≡◌, ◌⊎◌, ℕ, ◌+◌, ◌-◌, ◌<◌, ◌≤◌, List, [], ◌∷◌, ◌++◌, All, Contains, flat_map, length, map, slice_get, slice_index, Ok, Option, Some, None}
+use Rattle.std.specs.Prelude.{◌≡◌, ◌⊎◌, ℕ, ◌+◌, ◌-◌, ◌<◌, ◌≤◌, List, [], ◌∷◌, ◌++◌, All, Contains, drop, flat_map, length, map, slice_get, slice_index, take, Ok, Option, Some, None}
 use Rattle.std.specs.Io.KnownBytes.{Appends}
 use Rattle.versions.specs.Words.{Text}
 use Rattle.versions.specs.declared.refusal.Refusal.TheVariants.{Stray}
@@ -13,6 +13,7 @@ use Rattle.chronicle.specs.declared.row.TheConstants.{CAPACITY_LIMIT}
 use Rattle.lines.specs.Lines.{lines_of}
 use Rattle.lines.specs.Texts.{IsBeginning}
 use Rattle.journals.specs.Files.{IsJournalOf}
+use Rattle.journals.specs.Logs.{lines_behind}
 use Rattle.journals.specs.Saved.{kept, saved_text}
 use Rattle.replies.specs.Replies.{Reply, replies_text}
 use Rattle.answers.specs.Lawful.{AreLawfulWithin, Ways}
@@ -27,6 +28,10 @@ file_of journal = saved_text (packages_of journal) (items_of journal)
 -- the file of a journal loads again: it is that of its items, less what was left out
 abbrev pub Loads : List Entry → Type 0
 Loads journal = IsJournalOf (kept (packages_of journal) (items_of journal)) (file_of journal)
+
+-- the lines that the entries behind the first so many have in a journal's file
+abbrev pub lines_past : ℕ → List Entry → Text
+lines_past from journal = lines_behind (take from (items_of journal)) (drop from (items_of journal))
 
 -- ---- a seat's backend
 

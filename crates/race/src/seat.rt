@@ -1,10 +1,10 @@
 //! A seat of a race as a backend.
-ghost use Rattle.std.specs.Prelude.{◌≡◌, ◌⊎◌, All, Some, IfErr, IfOk, OnOk};
+ghost use Rattle.std.specs.Prelude.{◌≡◌, ◌⊎◌, ◌≤◌, ◌<◌, All, Some, IfErr, IfNone, IfOk, IfSome, OnOk, length};
 ghost use Rattle.chronicle.specs.Calls.{Enter};
 ghost use Rattle.chronicle.specs.Seats.{HasCalled, MayHaveSeen};
-ghost use Rattle.race.specs.Racing.{Loads, file_of, seat_ways};
+ghost use Rattle.race.specs.Racing.{Loads, file_of, lines_past, seat_ways};
 
-use crate::racing::journal_text;
+use crate::racing::{journal_text, text_past};
 use answers::{Backend, ReplyStamp};
 use book::Item;
 use chronicle::{Mark, Seat, Stamp};
@@ -45,8 +45,34 @@ impl Racer {
         ensures text { IfOk result (λ text. text.items ≡ file_of self.new.journal) }
         ensures loads { OnOk result (Loads self.new.journal) }
     {
+        self.catch_up()?;
+        journal_text(alloc, &mut self.seat)
+    }
+
+    /// Looks for what others entered, and gives the lines that the entries behind the first `from` have in a journal's file, and how many
+    /// entries the seat has seen then: nothing where these are fewer than `from`. Beside the look it is linear in what it gives.
+    pub fn lines(&mut self, alloc: Global, from: usize) -> io::Result<Option<(Vec<u8>, usize)>>
+        ensures seen { MayHaveSeen self.old self.new }
+        ensures within { IfOk result (λ o. IfSome o (λ r. from ≤ length self.new.journal)) }
+        ensures lines { IfOk result (λ o. IfSome o (λ r. r.0.items ≡ lines_past from self.new.journal)) }
+        ensures place { IfOk result (λ o. IfSome o (λ r. r.1 ≡ length self.new.journal)) }
+        ensures fewer { IfOk result (λ o. IfNone o (length self.new.journal < from)) }
+    {
+        self.catch_up()?;
+        let place = self.seat.place();
+        if place < from {
+            return Ok(None);
+        }
+        let text = text_past(alloc, &mut self.seat, from)?;
+        Ok(Some((text, place)))
+    }
+
+    /// Looks for what others entered.
+    fn catch_up(&mut self) -> io::Result<()>
+        ensures { MayHaveSeen self.old self.new }
+    {
         match self.seat.catch_up() {
-            Ok(()) => journal_text(alloc, &mut self.seat),
+            Ok(()) => Ok(()),
             Err(Refusal::NoMemory) => Err(io::Error::from(ErrorKind::OutOfMemory)),
             Err(_) => Err(io::Error::from(ErrorKind::InvalidData)),
         }

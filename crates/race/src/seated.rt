@@ -1,9 +1,9 @@
 //! Seats that live between calls: each answers a line, and keeps its reply until the next one.
-ghost use Rattle.std.specs.Prelude.{◌≡◌, ◌≤◌, ◌∷◌, [], map, IfErr, IfOk, IsOk, OnOk, vec_len};
+ghost use Rattle.std.specs.Prelude.{◌≡◌, ◌≤◌, ◌<◌, ◌∷◌, [], length, map, IfErr, IfNone, IfOk, IfSome, IsOk, OnOk, vec_len};
 ghost use Rattle.replies.specs.Replies.{Reply, reply_text};
 ghost use Rattle.answers.specs.Lawful.{IsLawfulWithin};
 ghost use Rattle.chronicle.specs.Seats.{MayHaveSeen};
-ghost use Rattle.race.specs.Racing.{Loads, file_of, seat_ways};
+ghost use Rattle.race.specs.Racing.{Loads, file_of, lines_past, seat_ways};
 ghost use Rattle.race.specs.Seated.{AreOpened, Enters, waiting};
 
 use crate::kept_reply::{KeptReply, put_line};
@@ -85,6 +85,20 @@ impl Seated {
         ensures reply { self.new.reply ≡ self.old.reply }
     {
         self.racer.journal(alloc)
+    }
+
+    /// Looks for what others entered, and gives the lines that the entries behind the first `from` have in a journal's file, and how many
+    /// entries the seat has seen then: nothing where these are fewer than `from`. Beside the look it is linear in what it gives. The last
+    /// reply stays.
+    pub fn lines(&mut self, alloc: Global, from: usize) -> io::Result<Option<(Vec<u8>, usize)>>
+        ensures seen { MayHaveSeen self.old.seat self.new.seat }
+        ensures within { IfOk result (λ o. IfSome o (λ r. from ≤ length self.new.seat.journal)) }
+        ensures lines { IfOk result (λ o. IfSome o (λ r. r.0.items ≡ lines_past from self.new.seat.journal)) }
+        ensures place { IfOk result (λ o. IfSome o (λ r. r.1 ≡ length self.new.seat.journal)) }
+        ensures fewer { IfOk result (λ o. IfNone o (length self.new.seat.journal < from)) }
+        ensures reply { self.new.reply ≡ self.old.reply }
+    {
+        self.racer.lines(alloc, from)
     }
 }
 
