@@ -104,7 +104,7 @@ Or with the journal of a session that was killed, once nobody has it.
 
 A front keeps no journal of its own.
 
-  $ for what in serve journal; do front $what --journal kept.journal; done
+  $ for what in serve journal; do front $what --journal kept.journal < /dev/null; done
   registryd-etcd: --journal is for found alone* (glob)
   registryd-etcd: --journal is for found alone* (glob)
   [2]

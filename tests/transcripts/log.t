@@ -69,9 +69,9 @@ A service knows when it accepted what.
 
 The times stay, whatever becomes of the program that keeps the journal. A command waits for the next one.
 
-  $ keeper=$(for it in $(cat /proc/$service/task/*/children); do grep -lz ^--journal= /proc/$it/cmdline; done | head -n 1)
+  $ keeper=$(for it in $(cat /proc/$service/task/*/children); do grep -lsz ^--journal= /proc/$it/cmdline; done | head -n 1)
   $ kill -9 "$(basename "${keeper%/cmdline}")"
-  $ while [ -e "$keeper" ] && grep -qz ^--journal= "$keeper"; do sleep 0.05; done
+  $ while [ -e "$keeper" ] && grep -qsz ^--journal= "$keeper"; do sleep 0.05; done
   $ ask '{"op":"publish","name":"zlib","version":"1.0.0","needs":[]}'
   {"ok":true,"revision":4}
   $ until_lines 4

@@ -10,6 +10,7 @@ begin() {
     service=$!
     trap 'kill "$service" 2> /dev/null' EXIT
     until at=$(sed -n 's/.* is served at \(.*\) (revision [0-9]*)$/\1/p' begun 2> /dev/null) && [ -n "$at" ]; do
+        kill -0 "$service" || { cat said; return 1; }
         sleep 0.05
     done
 }
@@ -38,7 +39,7 @@ ask() {
 rest() {
     connect
     printf "$@" >&7
-    tr -d '\r' <&7
+    timeout 60 tr -d '\r' <&7
     leave
 }
 
