@@ -15,7 +15,6 @@ import itertools
 import os
 import resource
 import subprocess
-import sys
 import tempfile
 import time
 
@@ -147,8 +146,7 @@ def main():
         tell(Bench(chosen.program, folder, chosen.lines, chosen.asked), folder, chosen.rounds)
     print(f"a loop of {LOOP} steps took {before * 1000:.0f} ms of a processor before, "
           f"and {speed() * 1000:.0f} ms after")
-    return 0
 
 
 if __name__ == "__main__":
-    sys.exit(main())
+    main()

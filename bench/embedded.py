@@ -143,8 +143,7 @@ def main():
     except c_library.Unbuilt as why:
         sys.exit(f"bench/embedded.py: {why}")
     print(*table(measured(chosen.program, library, chosen.trips, chosen.rounds)), sep="\n")
-    return 0
 
 
 if __name__ == "__main__":
-    sys.exit(main())
+    main()

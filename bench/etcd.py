@@ -20,8 +20,8 @@ import statistics
 import subprocess
 import sys
 import tempfile
-import threading
 import time
+from concurrent.futures import ThreadPoolExecutor
 
 from bench.lines import publish_lines
 from bench.measuring import write
@@ -61,23 +61,19 @@ class Bench:
     def measure(self, asked, lines_of, together):
         """Has each front asked as long as it is measured. Answers lines a second, and the milliseconds of a call:
         median, 99 of 100."""
-        spent, begun = [[] for _ in asked], time.perf_counter()
-        end = begun + self.seconds
+        begun = time.perf_counter()
 
         def client(number, front):
-            at = 0
-            while time.perf_counter() < end:
-                start, lines = time.perf_counter(), lines_of(number, at, together)
+            spent = []
+            while time.perf_counter() < begun + self.seconds:
+                start, lines = time.perf_counter(), lines_of(number, len(spent) * together, together)
                 replies = front.send(lines)
                 assert replies and not any('"error"' in it for it in replies), replies
-                spent[number].append(time.perf_counter() - start)
-                at += together
-        threads = [threading.Thread(target=client, args=it) for it in enumerate(asked)]
-        for thread in threads:
-            thread.start()
-        for thread in threads:
-            thread.join()
-        took, calls = time.perf_counter() - begun, sorted(it * 1000 for row in spent for it in row)
+                spent.append(time.perf_counter() - start)
+            return spent
+        with ThreadPoolExecutor(len(asked)) as pool:
+            rows = [*pool.map(client, itertools.count(), asked)]
+        took, calls = time.perf_counter() - begun, sorted(it * 1000 for row in rows for it in row)
         return len(calls) * together / took, statistics.median(calls), calls[len(calls) * 99 // 100]
 
     def founded(self):
@@ -223,8 +219,7 @@ def main():
             bench.catching_up(chosen.entries)
     finally:
         members.close()
-    return 0
 
 
 if __name__ == "__main__":
-    sys.exit(main())
+    main()

@@ -6,7 +6,6 @@ Prints the best time of each over the rounds, the ratio, and the program's peak 
 """
 import json
 import os
-import sys
 import tempfile
 import time
 
@@ -38,8 +37,7 @@ def main():
     print(f"json.loads   {loading * 1000:7.1f} ms")
     print(f"ratio        {took.seconds / loading:7.2f}")
     print(f"peak memory  {took.peak * 1024 / 1e6:7.1f} MB, {took.peak * 1024 / size:.1f} times the lines")
-    return 0
 
 
 if __name__ == "__main__":
-    sys.exit(main())
+    main()

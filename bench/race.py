@@ -52,8 +52,7 @@ def main():
     print(f"race         {min(races) * 1000:7.1f} ms")
     print(f"{chosen.files} sessions   {min(sessions) * 1000:7.1f} ms")
     print(f"ratio        {min(races) / min(sessions):7.2f}")
-    return 0
 
 
 if __name__ == "__main__":
-    sys.exit(main())
+    main()

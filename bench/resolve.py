@@ -6,7 +6,6 @@ Prints for each workload and size the best time of a resolve over the rounds, th
 the time grew with the number of publish lines since the smallest size: an exponent of 1 is linear.
 """
 import math
-import sys
 
 from bench.measuring import Session, parser
 from bench.workloads import WORKLOADS
@@ -35,8 +34,7 @@ def main():
             row = measured(chosen.program, make, size, chosen.rounds)
             first = first or row
             report(name, size, row, first)
-    return 0
 
 
 if __name__ == "__main__":
-    sys.exit(main())
+    main()

@@ -10,17 +10,9 @@ least budget under which it is answered: under less it is answered that its budg
 import json
 import sys
 
+from bench import workloads
 from bench.lines import publish_lines
 from bench.measuring import Session, parser
-from bench.workloads import (
-    SHARED,
-    about_one,
-    chain,
-    crossed,
-    dead_ends,
-    tower,
-    worn,
-)
 from registry_cli.limits import MOST_STORED as STORE
 
 SPENT = b'"error":22'
@@ -92,7 +84,7 @@ def apart(program, lines, requests):
 def report_shared(program, rounds, sessions):
     print("workload  size  lines   conflicts, second      first     second   share"
           f"   {sessions} in one session, each in one   share")
-    for name, (make, size) in SHARED.items():
+    for name, (make, size) in workloads.SHARED.items():
         lines, requests = make(size)
         requests = requests[:sessions]
         first, second = counted(program, lines, requests[0])
@@ -146,13 +138,13 @@ def report(what, empty, full):
 
 def report_full(program, rounds):
     print(f"\nwhere {STORE} are stored, beside none{'':29}none         full   share")
-    dead, fill = dead_ends(STORE)
-    for name, make, size in (("tower", tower, 7), ("tower", tower, 16), ("chain", chain, 30), ("worn", worn, 300)):
-        lines, requests = make(size)
+    dead, fill = workloads.dead_ends(STORE)
+    for name, size in (("tower", 7), ("tower", 16), ("chain", 30), ("worn", 300)):
+        lines, requests = getattr(workloads, name)(size)
         report(f"{name} {size}, of which no member says anything",
                *beside(program, dead + lines, fill, requests[0], rounds))
-    lines, fill_one = about_one(STORE)
-    report("a search with hub, which each member names", *beside(program, lines, fill_one, crossed(), rounds))
+    lines, fill_one = workloads.about_one(STORE)
+    report("a search with hub, which each member names", *beside(program, lines, fill_one, workloads.crossed(), rounds))
     report_ingest(program, rounds, dead, fill)
 
 
@@ -176,8 +168,7 @@ def main():
     chosen = parser(__doc__, rounds=10, sessions=200).parse_args()
     report_shared(chosen.program, chosen.rounds, chosen.sessions)
     report_full(chosen.program, chosen.rounds)
-    return 0
 
 
 if __name__ == "__main__":
-    sys.exit(main())
+    main()

@@ -20,25 +20,17 @@ import subprocess
 import sys
 import tempfile
 import time
-from collections.abc import Iterator
 from dataclasses import dataclass
 
+from bench.embedded import publications
 from tests.support import program
 from tests.support.registry_folder import pigeons
 from tests.support.services import Service
 
-PACKAGES, VERSIONS, COMMANDS = 8, 20, 40_000  # of the registry that is asked, and how many more fit into a journal
+COMMANDS = 40_000  # that fit into a journal behind the registry that is asked
 REQUEST = program.resolve("app ^1").encode() + b"\n"
 HOLES, BIRDS = pigeons(15)
 HARD = program.resolve(*(f"{it} *" for it in BIRDS)).encode() + b"\n"
-
-
-def registry() -> Iterator[str]:
-    """The publications of eight packages, each of which needs the next one."""
-    names = ["app", *(f"below-{number}" for number in range(1, PACKAGES))]
-    for name, needed in zip(names, [*names[1:], None]):
-        for minor in range(VERSIONS):
-            yield program.publish(name, f"1.{minor}.0", [f"{needed} ^1"] if needed else [])
 
 
 class Publications:
@@ -104,7 +96,7 @@ class Bench:
             service = Service(folder, *self.words)
             try:
                 with service.client() as client:
-                    client.ask(*registry())
+                    client.ask(*publications())
                 yield service
             finally:
                 service.end()
@@ -120,8 +112,9 @@ class Bench:
         with tempfile.TemporaryDirectory(dir=self.folder) as folder:
             words = [program.PROGRAM, "serve", "--workers", "1", "--journal", os.path.join(folder, "journal")]
             with subprocess.Popen(words, stdin=subprocess.PIPE, stdout=subprocess.PIPE, bufsize=0) as running:
-                running.stdin.write("".join(it + "\n" for it in registry()).encode())
-                program.read_lines(running, PACKAGES * VERSIONS)
+                lines = publications()
+                running.stdin.write("".join(it + "\n" for it in lines).encode())
+                program.read_lines(running, len(lines))
                 figures = self.both([(running.stdout.fileno(), running.stdin.fileno())])
                 running.stdin.close()
         return figures
@@ -184,8 +177,7 @@ def main(words):
         memory(bench, chosen.memory)
     else:
         compare(bench, chosen.clients)
-    return 0
 
 
 if __name__ == "__main__":
-    sys.exit(main(sys.argv[1:]))
+    main(sys.argv[1:])

@@ -12,7 +12,6 @@ from __future__ import annotations
 import os
 import resource
 import subprocess
-import sys
 import tempfile
 import time
 import urllib.request
@@ -85,8 +84,7 @@ def main():
             own = used - (kind not in (PYTHON, LOADING)) * found[LOADING][1]
             print(f"{versions:8}  {kind:10}{clock * 1000:8.0f} ms{used * 1000:9.0f} ms"
                   f"{own / found[PYTHON][1]:19.1f}", flush=True)
-    return 0
 
 
 if __name__ == "__main__":
-    sys.exit(main())
+    main()

@@ -140,8 +140,7 @@ def main():
         sys.exit("\n".join(TUNED))
     lines, requests = TUNED[name]()
     print(*lines, *requests, sep="\n")
-    return 0
 
 
 if __name__ == "__main__":
-    sys.exit(main())
+    main()

@@ -58,8 +58,7 @@ def main():
     one, most = (alone(chosen.program, workers, lines, requests, chosen.rounds) for workers in (1, WORKERS[-1]))
     print(f"one request at a time: {one * 1000:.3f} ms by 1 worker, {most * 1000:.3f} ms by {WORKERS[-1]}, "
           f"ratio {most / one:.2f}")
-    return 0
 
 
 if __name__ == "__main__":
-    sys.exit(main())
+    main()

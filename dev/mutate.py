@@ -54,15 +54,9 @@ def mutants(text: str) -> Iterator[tuple[int, str, str]]:
                     made = ast.unparse(ast.fix_missing_locations(tree))
                     told += " is deleted" if shown is child else f"  is  {ast.unparse(node)}"
                     setattr(node, field, held)
-                    if is_compiled(made):
+                    with contextlib.suppress(SyntaxError):
+                        compile(made, "a mutant", "exec")
                         yield line, " ".join(told.split())[:160], made
-
-
-def is_compiled(text: str) -> bool:
-    try:
-        return bool(compile(text, "a mutant", "exec"))
-    except SyntaxError:
-        return False
 
 
 def changes(parent: ast.AST, field: str, node: ast.AST) -> Iterator[ast.AST]:

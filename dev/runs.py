@@ -6,10 +6,10 @@ import multiprocessing
 import os
 import tempfile
 import time
-from collections.abc import Callable, Iterable, Iterator, Sequence
+from collections.abc import Callable, Iterator, Sequence
 from typing import Any
 
-from tests.support import program
+from tests.support import program, said
 
 
 class Find(Exception):
@@ -19,17 +19,6 @@ class Find(Exception):
 def demand(holds: object, what: str) -> None:
     if not holds:
         raise Find(what)
-
-
-def options(description: str | None, words: Sequence[str], **usual: int) -> argparse.Namespace:
-    """The options of a run: numbers with their usual values, and the program that is tried."""
-    parser = argparse.ArgumentParser(description=description, formatter_class=argparse.RawDescriptionHelpFormatter)
-    for name, number in {"seed": 1, **usual, "jobs": os.cpu_count()}.items():
-        parser.add_argument(f"--{name}", type=int, default=number)
-    parser.add_argument("--program", default=program.PROGRAM)
-    chosen = parser.parse_args(words)
-    program.PROGRAM = chosen.program
-    return chosen
 
 
 def seed_tried(seed: int, try_in: Callable[[str], Sequence[Any]], counts: Sequence[Any],
@@ -43,21 +32,29 @@ def seed_tried(seed: int, try_in: Callable[[str], Sequence[Any]], counts: Sequen
 
 
 class Run:
-    """Tries seeds side by side, and prints what is found."""
+    """Tries seeds side by side, and prints what is found. Its options are the program that is tried, and numbers with
+    their usual values: the first one says how many seeds there are."""
 
-    def __init__(self, jobs: int) -> None:
-        self.jobs, self.begun, self.finds = jobs, time.monotonic(), 0
+    def __init__(self, description: str | None, words: Sequence[str], **usual: int) -> None:
+        parser = argparse.ArgumentParser(description=description, formatter_class=argparse.RawDescriptionHelpFormatter)
+        for name, number in {"seed": 1, **usual, "jobs": os.cpu_count()}.items():
+            parser.add_argument(f"--{name}", type=int, default=number)
+        parser.add_argument("--program", default=program.PROGRAM)
+        chosen = parser.parse_args(words)
+        program.PROGRAM, self.chosen, self.count = chosen.program, chosen, getattr(chosen, next(iter(usual)))
+        self.begun, self.finds, said.is_noting = time.monotonic(), 0, False
 
-    def each(self, tried: Callable[..., tuple[Any, ...]], seeds: Iterable[int]) -> Iterator[list[Any]]:
-        """What is counted of each seed."""
-        with multiprocessing.get_context("fork").Pool(self.jobs) as pool:
-            for *counts, find in pool.imap_unordered(tried, seeds):
+    def each(self, tried: Callable[..., tuple[Any, ...]], seeds: int | None = None) -> Iterator[list[Any]]:
+        """What is counted of each seed, of so many or all."""
+        first = self.chosen.seed
+        with multiprocessing.get_context("fork").Pool(self.chosen.jobs) as pool:
+            for *counts, find in pool.imap_unordered(tried, range(first, first + (seeds or self.count))):
                 for text in [find] if isinstance(find, str) else find or ():
                     self.finds += 1
                     print(text, flush=True)
                 yield counts
 
-    def totals(self, tried: Callable[..., tuple[Any, ...]], seeds: Iterable[int]) -> list[Any]:
+    def totals(self, tried: Callable[..., tuple[Any, ...]], seeds: int | None = None) -> list[Any]:
         """The sums of what is counted of the seeds."""
         return [sum(column) for column in zip(*self.each(tried, seeds))]
 

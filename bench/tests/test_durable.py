@@ -47,7 +47,3 @@ class Durable(unittest.TestCase):
 
     def test_a_sync_takes_time(self):
         self.assertGreater(sync_of(self.bench.folder, 100), 0)
-
-
-if __name__ == "__main__":
-    unittest.main()

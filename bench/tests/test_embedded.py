@@ -49,7 +49,3 @@ class Embedded(unittest.TestCase):
         self.assertEqual(len(lines), len(rows))
         self.assertTrue(all(re.fullmatch(rf"\| \w+, [a-z ]+( \| {NUMBER}){{6}} \|", line) for line in lines), lines)
         self.assertRegex(lines[0], r"\| 1\.0 \| .* \| 1\.0 \|$")
-
-
-if __name__ == "__main__":
-    unittest.main()

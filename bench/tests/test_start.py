@@ -31,7 +31,3 @@ class Measured(unittest.TestCase):
                 if kind in STATUSES:
                     done = subprocess.run(words, stdin=subprocess.DEVNULL, capture_output=True, check=False)
                     self.assertEqual(done.returncode, STATUSES[kind], (kind, done.stderr))
-
-
-if __name__ == "__main__":
-    unittest.main()

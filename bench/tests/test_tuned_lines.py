@@ -4,24 +4,11 @@ import json
 import re
 import unittest
 
-from bench.tuned_lines import (
-    TUNED,
-    chain_number,
-    chain_of,
-    dead_chains,
-    in_one_chain,
-    long_requirements,
-    needs_each,
-    one_chain,
-    one_hub,
-    pigeons,
-    refused,
-    wide_formulas,
-)
+from bench import tuned_lines as tuned
 from tests.support.program import serve
 
-REFUSED = {"chain": chain_of(3, 5), "pigeons": pigeons(4, 3), "one chain": one_chain(2, 3), "refused": refused(3),
-           "one hub": one_hub(3)}
+REFUSED = {"chain": tuned.chain_of(3, 5), "pigeons": tuned.pigeons(4, 3), "one chain": tuned.one_chain(2, 3),
+           "refused": tuned.refused(3), "one hub": tuned.one_hub(3)}
 
 
 def replies(lines, requests):
@@ -45,7 +32,7 @@ def can_hold(lines, formula, size, versions):
 
 class TunedLines(unittest.TestCase):
     def test_formulas_over_many_versions(self):
-        lines, requests = wide_formulas(4, 6, 4, 3, 16)
+        lines, requests = tuned.wide_formulas(4, 6, 4, 3, 16)
         errors, found = replies(lines, requests)
         self.assertEqual(errors, [])
         wanted = [can_hold(lines, formula, 4, 4) for formula in range(16)]
@@ -60,22 +47,22 @@ class TunedLines(unittest.TestCase):
             self.assertEqual([reply.get("refused") for reply in found], [True] * len(requests), name)
 
     def test_a_request_with_one(self):
-        errors, found = replies(*dead_chains(3, 2, 4))
+        errors, found = replies(*tuned.dead_chains(3, 2, 4))
         self.assertEqual((errors, len(found)), ([], 1))
         self.assertIn(["d1", "1.0.0"], found[0]["selected"])
 
     def test_a_hole_for_each_pigeon(self):
-        errors, found = replies(*pigeons(3, 3))
+        errors, found = replies(*tuned.pigeons(3, 3))
         self.assertEqual(errors, [])
         self.assertEqual({name for name, _ in found[0]["selected"]}, {"p0", "p1", "p2", "h0", "h1", "h2"})
 
     def test_publications_alone(self):
-        for lines, requests in (needs_each(6, 5), needs_each(12, 5), long_requirements(9)):
+        for lines, requests in (tuned.needs_each(6, 5), tuned.needs_each(12, 5), tuned.long_requirements(9)):
             self.assertEqual(replies(lines, requests), ([], []))
 
     def test_requirements_of_one_chain(self):
-        needs = in_one_chain(50)
-        self.assertEqual((len({*needs}), len({chain_number(need) for need in needs})), (50, 1))
+        needs = tuned.in_one_chain(50)
+        self.assertEqual((len({*needs}), len({tuned.chain_number(need) for need in needs})), (50, 1))
 
     def test_names_have_lines(self):
-        self.assertEqual([name for name, make in TUNED.items() if not make()[0]], [])
+        self.assertEqual([name for name, make in tuned.TUNED.items() if not make()[0]], [])

@@ -4,27 +4,11 @@ import json
 import random
 import unittest
 
+from bench import workloads
 from bench.hostile import measured, size
 from bench.hostile_lines import HOSTILE, MEGABYTE
 from bench.race import dealt
 from bench.workers import WORKERS, alone, by_workers
-from bench.workloads import (
-    SHARED,
-    about_one,
-    chain,
-    clauses,
-    conflicting,
-    crossed,
-    dead_ends,
-    lockfile,
-    partial,
-    publish,
-    resolve,
-    sat,
-    tower,
-    towers,
-    worn,
-)
 from tests.support.program import PROGRAM, serve
 from tests.support.teaching import TEACHING
 
@@ -38,12 +22,12 @@ class Workloads(unittest.TestCase):
         return replies[len(lines):]
 
     def test_a_lockfile_is_found(self):
-        for reply in self.replies(lockfile(60)):
+        for reply in self.replies(workloads.lockfile(60)):
             self.assertIn('"selected":[[', reply)
 
     def test_requests_of_a_batch(self):
-        lines, requests = lockfile(60, count=256)
-        self.assertEqual((len(set(requests)), lockfile(60)), (256, (lines, requests[:6])))
+        lines, requests = workloads.lockfile(60, count=256)
+        self.assertEqual((len(set(requests)), workloads.lockfile(60)), (256, (lines, requests[:6])))
         for reply in self.replies((lines, requests)):
             self.assertIn('"selected":[[', reply)
         rates = by_workers(PROGRAM, lines, requests[:20], 1)
@@ -51,18 +35,18 @@ class Workloads(unittest.TestCase):
         self.assertGreater(min(*rates.values(), alone(PROGRAM, WORKERS[-1], lines, requests[:5], 1)), 0)
 
     def test_a_random_registry(self):
-        lines, requests = conflicting(12, 1)
-        self.assertEqual((conflicting(12, 1), len(lines), len(requests)), ((lines, requests), 60, 16))
+        lines, requests = workloads.conflicting(12, 1)
+        self.assertEqual((workloads.conflicting(12, 1), len(lines), len(requests)), ((lines, requests), 60, 16))
         versions = [json.loads(line) for line in lines]
         self.assertEqual(len({(it["name"], it["version"]) for it in versions}), 60)
         self.assertTrue(all(len(dict(it["needs"])) == 2 and it["name"] not in dict(it["needs"]) for it in versions))
 
     def test_a_tower_is_refused(self):
-        for reply in self.replies(tower(5)):
+        for reply in self.replies(workloads.tower(5)):
             self.assertIn('"refused":true', reply)
 
     def test_conflicts_side_by_side_are_all_avoided(self):
-        (reply,) = self.replies(partial(70))
+        (reply,) = self.replies(workloads.partial(70))
         selected = json.loads(reply)["selected"]
         # of each copy the package that both are needed by, foo and target, and two packages that stand for all
         self.assertEqual(len(selected), 3 * 70 + 2)
@@ -71,8 +55,8 @@ class Workloads(unittest.TestCase):
     def test_a_formula_is_decided(self):
         rng = random.Random(1)
         held = []
-        for reply in self.replies(sat(10)):
-            formula = clauses(10, rng)
+        for reply in self.replies(workloads.sat(10)):
+            formula = workloads.clauses(10, rng)
             held.append(any(all(any(values[variable] == value for variable, value in clause) for clause in formula)
                             for values in itertools.product((0, 1), repeat=10)))
             if held[-1]:
@@ -86,24 +70,24 @@ class Workloads(unittest.TestCase):
 
     def test_requests_that_share_conflicts(self):
         refused = '"refused":true'
-        for make, count, answer in ((towers, 4, refused), (chain, 5, refused), (worn, 60, '"selected":[[')):
-            lines, requests = make(count)
+        for name, count, answer in (("towers", 4, refused), ("chain", 5, refused), ("worn", 60, '"selected":[[')):
+            lines, requests = getattr(workloads, name)(count)
             self.assertEqual(len(set(requests)), len(requests))
             for reply in self.replies((lines, requests[:20])):
                 self.assertIn(answer, reply)
 
     def test_a_session_has_so_many_requests(self):
-        for make, count in SHARED.values():
+        for make, count in workloads.SHARED.values():
             self.assertEqual(len(make(count)[1]), 200)
 
     def test_what_fills_a_store_is_found(self):
-        for make in (dead_ends, about_one):
+        for make in (workloads.dead_ends, workloads.about_one):
             lines, requests = make(130)
             for reply in self.replies((lines, requests)):
                 found = dict(json.loads(reply)["selected"])
                 versions = {version for name, version in found.items() if name.startswith("d")}
                 self.assertEqual(versions, {"1.0.0"}, reply)
-        self.assertIn('"refused":true', self.replies((about_one(1)[0], [crossed()]))[0])
+        self.assertIn('"refused":true', self.replies((workloads.about_one(1)[0], [workloads.crossed()]))[0])
 
     def test_what_each_version_says_anew(self):
         for name in ("all bumped", "two bumped"):
@@ -140,8 +124,8 @@ class Workloads(unittest.TestCase):
         self.assertEqual(HOSTILE["resting"](3), HOSTILE["resting"](3, needs=needs))
         # What a version needs is looked at when it is decided, and s has two: so the first conflict ends the search
         # only where it is known that r can't be had, which both need.
-        both = [publish("s", (major, 0, 0), [["r0000", "*"]]) for major in (1, 2)]
-        again = json.dumps({**json.loads(resolve([["s", "*"]])), "budget": 1})
+        both = [workloads.publish("s", (major, 0, 0), [["r0000", "*"]]) for major in (1, 2)]
+        again = json.dumps({**json.loads(workloads.resolve([["s", "*"]])), "budget": 1})
         for more, told in ((0, '"refused":true'), (1, '"error":22')):
             lines, asked = HOSTILE["resting"](3, needs=needs + more)
             published = [line for line in lines if '"op":"publish"' in line]
@@ -158,7 +142,3 @@ class Workloads(unittest.TestCase):
         files = dealt(lines, 3)
         self.assertEqual(sorted(sum(files, [])), sorted(lines))
         self.assertEqual(files[1], ["1", "4", "7", "10", "13", "16", "19"])
-
-
-if __name__ == "__main__":
-    unittest.main()

@@ -19,17 +19,7 @@ from dev.building import prove_library
 from dev.building.progress import stands_on
 from dev.draw_crates import reached
 from dev.edits.edit_files import Edit
-from dev.edits.try_rounds import (
-    BAD,
-    BY_CLAUSE,
-    BY_PROOF,
-    Verdict,
-    build_below,
-    library,
-    listed,
-    take,
-    try_in_rounds,
-)
+from dev.edits.try_rounds import BAD, BY_CLAUSE, BY_PROOF, Verdict, build_below, library, listed, take, try_in_rounds
 
 
 def give_way() -> None:

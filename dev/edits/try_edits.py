@@ -16,20 +16,9 @@ from pathlib import Path
 from dev.building.gate import copy_crates
 from dev.building.progress import jobs, stands_on
 from dev.draw_crates import reached
+from dev.edits import try_rounds
 from dev.edits.edit_files import EDITS, Edit, edits_of, functions_of
-from dev.edits.try_rounds import (
-    BAD,
-    BY_CLAUSE,
-    BY_NAME,
-    BY_PROOF,
-    NOT_REFUSED,
-    VALUES,
-    build_below,
-    library,
-    link_all,
-    take,
-    try_in_rounds,
-)
+from dev.edits.try_rounds import BAD, BY_CLAUSE, BY_NAME, BY_PROOF, NOT_REFUSED, VALUES
 
 # What else a try of a whole crate comes to, and the words by which `rt must-fail` tells it. It tells the beginning of
 # one error: where that has no values, it counts as one of the proof.
@@ -56,9 +45,9 @@ def copy_with_edits(edits: Sequence[Edit], to: str) -> None:
     crates = stands_on()
     copy_crates(crates, Path(to))
     for name in set().union(*(reached(crates, edit.crate) for edit in edits)):
-        built = os.path.dirname(library(name))
+        built = os.path.dirname(try_rounds.library(name))
         if os.path.isdir(built):
-            link_all(built, os.path.join(to, "crates", name, "out", "rlib"))
+            try_rounds.link_all(built, os.path.join(to, "crates", name, "out", "rlib"))
     for edit in edits:
         there = os.path.join(to, "crates", edit.crate, "must-fail")
         os.makedirs(there, exist_ok=True)
@@ -87,7 +76,7 @@ def try_by_functions(edits: Sequence[Edit], room: str) -> dict[tuple[str, str], 
     """Tries edits of one crate by the functions that they change; answers what came of them, as far as each changes
     one."""
     kinds = {}
-    for edit, (kind, why) in try_in_rounds([edit for edit in edits if len(functions_of(edit)) == 1], room):
+    for edit, (kind, why) in try_rounds.try_in_rounds([edit for edit in edits if len(functions_of(edit)) == 1], room):
         print(f"{edit.crate}/{edit.file}: {kind}: {why[:160]}", flush=True)
         kinds[edit.crate, edit.file] = kind
     return kinds
@@ -98,8 +87,8 @@ def count(names: Sequence[str]) -> dict[str, dict[str, int]]:
     crates = sorted((list(edits_of(name)) for name in names), key=len, reverse=True)
     kinds: dict[tuple[str, str], str] = {}
     with tempfile.TemporaryDirectory() as room, ThreadPoolExecutor(jobs()) as pool:
-        for name in build_below(names):
-            take(name, room)
+        for name in try_rounds.build_below(names):
+            try_rounds.take(name, room)
         for found in pool.map(try_by_functions, crates, [room] * len(crates)):
             kinds.update(found)
     left = [edit for edits in crates for edit in edits if kinds.get((edit.crate, edit.file), BAD) in (NOT_REFUSED, BAD)]

@@ -18,8 +18,8 @@ import sys
 from collections.abc import Sequence
 from typing import Any
 
-from dev.runs import Run, demand, options, seed_tried
-from tests.support import program, said
+from dev.runs import Run, demand, seed_tried
+from tests.support import program
 from tests.support.made_lines import NAMES, Maker
 from tests.support.plain_journal import first_fault
 from tests.support.plain_session import PlainSession, Requirements
@@ -181,11 +181,8 @@ def tried(seed: int, count: int) -> tuple[Any, ...]:
 
 
 def main(words: Sequence[str]) -> int:
-    chosen = options(__doc__, words, sessions=20, lines=1000)
-    said.is_noting = False
-    run = Run(chosen.jobs)
-    seeds = range(chosen.seed, chosen.seed + chosen.sessions)
-    lines, = run.totals(functools.partial(tried, count=chosen.lines), seeds)
+    run = Run(__doc__, words, sessions=20, lines=1000)
+    lines, = run.totals(functools.partial(tried, count=run.chosen.lines))
     return run.end(f"{lines:,} lines")
 
 

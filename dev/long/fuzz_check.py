@@ -16,9 +16,8 @@ from collections import Counter
 from collections.abc import Sequence
 
 from dev.long import fuzz
-from dev.runs import Run, options
+from dev.runs import Run
 from registryd_lines.judging import faults
-from tests.support import said
 from tests.support.slipped_lines import Slips
 
 COMPARED = (1, 2, 3, 4, 5, 6, 19)
@@ -70,11 +69,8 @@ def tried(seed: int, count: int) -> tuple[Counter[int], list[str]]:
 
 
 def main(words: Sequence[str]) -> int:
-    chosen = options(__doc__, words, sessions=20, lines=1000)
-    said.is_noting = False
-    run, counts = Run(chosen.jobs), Counter[int]()
-    seeds = range(chosen.seed, chosen.seed + chosen.sessions)
-    for count, in run.each(functools.partial(tried, count=chosen.lines), seeds):
+    run, counts = Run(__doc__, words, sessions=20, lines=1000), Counter[int]()
+    for count, in run.each(functools.partial(tried, count=run.chosen.lines)):
         counts += count
     return run.end(f"{counts.total():,} lines", f", answered {dict(sorted(counts.items()))}")
 

@@ -30,18 +30,8 @@ from pathlib import Path
 from typing import Any
 from unittest import mock
 
-from dev.runs import Find, Run, demand, options, seed_tried
-from registryd import (
-    Accepted,
-    AlreadyPublished,
-    Ended,
-    NoSelection,
-    Publish,
-    Refusal,
-    Registry,
-    Resolve,
-    Selection,
-)
+from dev.runs import Find, Run, demand, seed_tried
+from registryd import Accepted, AlreadyPublished, Ended, NoSelection, Publish, Refusal, Registry, Resolve, Selection
 from registryd.child import BROKEN_OFF
 from tests.support import program
 from tests.support.library import LIBRARY
@@ -309,10 +299,9 @@ def tried(seed: int, most: int = SESSIONS) -> tuple[Any, ...]:
 
 
 def main(words: Sequence[str]) -> int:
-    chosen = options(__doc__, words, sessions=60)
-    run, most = Run(chosen.jobs), min(SESSIONS, chosen.sessions)
-    seeds = range(chosen.seed, chosen.seed + -(-chosen.sessions // SESSIONS))
-    count, interrupts, replies = run.totals(functools.partial(tried, most=most), seeds)
+    run = Run(__doc__, words, sessions=60)
+    most, groups = min(SESSIONS, run.count), -(-run.count // SESSIONS)
+    count, interrupts, replies = run.totals(functools.partial(tried, most=most), groups)
     return run.end(f"{count:,} sessions, {interrupts:,} calls interrupted, {replies:,} replies judged,")
 
 

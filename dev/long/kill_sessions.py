@@ -25,7 +25,7 @@ from collections.abc import Callable, Sequence
 from typing import Any
 
 from dev.long.race_many import contended
-from dev.runs import Find, Run, demand, options, seed_tried
+from dev.runs import Find, Run, demand, seed_tried
 from registry_cli import tied
 from tests.program.test_batches import CLASHING, TOPS
 from tests.support import program
@@ -214,14 +214,12 @@ def tried(seed: int, most: int = SESSIONS) -> tuple[Any, ...]:
 
 
 def main(words: Sequence[str]) -> int:
-    chosen = options(__doc__, words, kills=40)
-    run, kills, replies = Run(chosen.jobs), 0, 0
+    run, kills, replies = Run(__doc__, words, kills=40), 0, 0
     sizes: list[int] = []
-    seeds = range(chosen.seed, chosen.seed + chosen.kills)
-    for of_one, told, size in run.each(functools.partial(tried, most=chosen.kills), seeds):
+    for of_one, told, size in run.each(functools.partial(tried, most=run.count)):
         kills, replies = kills + of_one, replies + told
         sizes.append(size)
-        if kills >= chosen.kills:
+        if kills >= run.count:
             break
     return run.end(f"{kills:,} kills of sessions of {len(sizes)} files, the largest of {max(sizes):,} bytes, "
                    f"{replies:,} replies read,")

@@ -21,7 +21,7 @@ from pathlib import Path
 from typing import Any
 
 from dev.long.kill_sessions import WORKERS
-from dev.runs import Run, demand, options, seed_tried
+from dev.runs import Run, demand, seed_tried
 from tests.support import durable_sessions, program
 from tests.support.plain_remnant import remnant
 
@@ -107,11 +107,10 @@ def tried(seed: int) -> tuple[Any, ...]:
 
 
 def main(words: Sequence[str]) -> int:
-    chosen = options(__doc__, words, sessions=40)
-    durable_sessions.PROGRAM = chosen.program
-    run = Run(chosen.jobs)
-    accepted, = run.totals(tried, range(chosen.seed, chosen.seed + chosen.sessions))
-    return run.end(f"{chosen.sessions:,} sessions whose files were moved, {accepted:,} commands accepted,")
+    run = Run(__doc__, words, sessions=40)
+    durable_sessions.PROGRAM = run.chosen.program
+    accepted, = run.totals(tried)
+    return run.end(f"{run.count:,} sessions whose files were moved, {accepted:,} commands accepted,")
 
 
 if __name__ == "__main__":

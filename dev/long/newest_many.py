@@ -17,7 +17,7 @@ import sys
 from collections.abc import Callable, Iterable
 from typing import Any
 
-from tests.support import program
+from dev.long import fuzz
 from tests.support.plain_newest import Published
 from tests.support.small_registries import Maker
 
@@ -28,11 +28,7 @@ Serve = Callable[[list[Any], int], list[str]]
 
 def serve(lines: Iterable[object], workers: int = 1) -> list[str]:
     """The replies to these lines."""
-    text = "".join(json.dumps(line) + "\n" for line in lines).encode()
-    done = program.run(["serve", "--workers", str(workers)], text)
-    assert done.returncode == 0 and done.stderr == b"", (done.returncode, done.stderr)
-    replies: list[str] = done.stdout.decode().split("\n")[:-1]
-    return replies
+    return fuzz.run([json.dumps(line).encode() for line in lines], workers=workers)
 
 
 def renamed(value: dict[str, Any], number: int) -> dict[str, Any]:

@@ -23,7 +23,7 @@ import time
 from collections.abc import Sequence
 from typing import Any
 
-from dev.runs import Run, options, seed_tried
+from dev.runs import Run, seed_tried
 from registry_cli import tied
 from tests.support import plain_race, program
 from tests.support.made_lines import Maker
@@ -121,12 +121,10 @@ def tried(seed: int, pausing: str) -> tuple[Any, ...]:
 
 
 def main(words: Sequence[str]) -> int:
-    chosen = options(__doc__, words, races=1)
-    run = Run(chosen.jobs)
+    run = Run(__doc__, words, races=1)
     with tempfile.TemporaryDirectory() as folder:
-        seeds = range(chosen.seed, chosen.seed + chosen.races)
-        lines, entries = run.totals(functools.partial(tried, pausing=library(folder)), seeds)
-    return run.end(f"{chosen.races:,} races of {lines:,} lines, {entries:,} entries,")
+        lines, entries = run.totals(functools.partial(tried, pausing=library(folder)))
+    return run.end(f"{run.count:,} races of {lines:,} lines, {entries:,} entries,")
 
 
 if __name__ == "__main__":

@@ -5,10 +5,8 @@ import json
 import os
 import re
 import signal
-import socket
 import subprocess
 import tempfile
-import threading
 import time
 import unittest
 
@@ -17,7 +15,7 @@ import pytest
 from tests.support.library import TESTS, linked_with_sources, needs_library
 from tests.support.program import LIST, PATIENCE, journal_line, publish, resolve, skip_without
 from tests.support.registry_folder import pigeons
-from tests.support.scripted_service import LOST, PUBLISHED, UNAVAILABLE, YANK, Scripted, accepted
+from tests.support.scripted_service import LOST, PUBLISHED, UNAVAILABLE, YANK, Scripted, accepted, answering
 from tests.support.services import Case, wait_for
 
 pytestmark = pytest.mark.not_quick("the static library")
@@ -255,20 +253,7 @@ class WithScripts(Called):
 
     def test_what_is_no_service(self):
         for text in ("no reply\n", "", "{}\n", "{" * 300, UNAVAILABLE):
-            listening = socket.socket(socket.AF_UNIX)
-            listening.bind(os.path.join(self.folder, "other"))
-            listening.listen()
-
-            def run():
-                connection, _ = listening.accept()
-                connection.recv(100)
-                connection.sendall(text.encode())
-                connection.close()
-            thread = threading.Thread(target=run)
-            thread.start()
-            told = self.tried("nowhere", os.path.join(self.folder, "other"))
+            path = os.path.join(self.folder, "other")
             why = "Resource temporarily unavailable" if text == UNAVAILABLE else "Connection reset by peer"
-            assert told == f"3: {why}\n"
-            thread.join()
-            listening.close()
-            os.unlink(os.path.join(self.folder, "other"))
+            with answering(path, text):
+                assert self.tried("nowhere", path) == f"3: {why}\n"

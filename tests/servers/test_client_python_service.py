@@ -3,10 +3,9 @@ meanwhile and is begun again."""
 import os
 import re
 import signal
-import socket
 import tempfile
-import threading
 import time
+from concurrent.futures import ThreadPoolExecutor
 from unittest import mock
 
 import pytest
@@ -18,7 +17,7 @@ from tests.program.test_client_python import Calls
 from tests.support import client_python
 from tests.support.client_python import HOPELESS, SECONDS, SOON, pigeons
 from tests.support.program import journal_line
-from tests.support.scripted_service import ASKED, FENCE, LOST, PUBLISHED, UNAVAILABLE, Scripted
+from tests.support.scripted_service import ASKED, FENCE, LOST, PUBLISHED, UNAVAILABLE, Scripted, answering
 from tests.support.services import Service, kill, wait_for
 
 
@@ -72,28 +71,23 @@ class Connected(client_python.Case):
     def test_it_is_killed_and_begun_again_while_it_is_asked(self):
         # so long a begin may take on a busy machine
         self.enterContext(mock.patch.object(registryd.service, "PATIENCE", SECONDS))
-        service, faults, told = self.service(), [], []
+        service, told = self.service(), []
 
-        def ask():
-            try:
-                with Registry(connect=service.socket) as registry:
-                    for minor in range(0, 120, 3):
-                        futures = registry.many([*(Publish("log", f"1.{minor + more}.0") for more in range(3)),
-                                                 Resolve({"log": "*"})])
-                        told.append([it.result(SECONDS) for it in futures])
-                        time.sleep(0.01)
-            except BaseException as fault:
-                faults.append(fault)
+        def ask(registry):
+            for minor in range(0, 120, 3):
+                futures = registry.many([*(Publish("log", f"1.{minor + more}.0") for more in range(3)),
+                                         Resolve({"log": "*"})])
+                told.append([it.result(SECONDS) for it in futures])
+                time.sleep(0.01)
 
-        asking = threading.Thread(target=ask)
-        asking.start()
-        for _ in range(3):
-            time.sleep(0.3)
-            service.running.kill()
-            service.wait()
-            service = self.service()
-        asking.join()
-        assert faults == []
+        with Registry(connect=service.socket) as registry, ThreadPoolExecutor() as pool:
+            asking = pool.submit(ask, registry)
+            for _ in range(3):
+                time.sleep(0.3)
+                service.running.kill()
+                service.wait()
+                service = self.service()
+            asking.result()
         assert told == [[*(Accepted(minor + more + 1) for more in range(3)),
                          Selection(minor + 3, {"log": f"1.{minor + 2}.0"})] for minor in range(0, 120, 3)]
         assert len(service.commands()) == 120
@@ -229,19 +223,5 @@ class Scripts(client_python.Case):
 
     def test_what_is_no_service(self):
         for text in ("no reply\n", "", UNAVAILABLE):
-            listening = socket.socket(socket.AF_UNIX)
-            listening.bind(self.path("other"))
-            listening.listen()
-
-            def run():
-                connection, _ = listening.accept()
-                connection.recv(100)
-                connection.sendall(text.encode())
-                connection.close()
-            thread = threading.Thread(target=run)
-            thread.start()
-            with pytest.raises(ConnectionError):
+            with answering(self.path("other"), text), pytest.raises(ConnectionError):
                 Registry(connect=self.path("other"))
-            thread.join()
-            listening.close()
-            os.unlink(self.path("other"))

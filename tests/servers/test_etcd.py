@@ -1,5 +1,5 @@
 """Fronts over etcd: what they answer when replies are lost, entries race and cells are dropped. Behind the fronts
-stands a small etcd in memory; a real one is asked, too."""
+stands a small etcd in memory; a real one is asked, too. `tests/transcripts/etcd.t` has what needs no hook."""
 import hashlib
 import json
 import os
@@ -14,47 +14,17 @@ from base64 import b64decode, b64encode
 from pathlib import Path
 
 from dev.long import etcd_histories
-from registry_cli.limits import MOST_COMMANDS, MOST_LINE_BYTES
 from tests.program.test_readme import blocks
 from tests.support import fronts, program
-from tests.support.durable_sessions import Client
 from tests.support.fake_etcd import Drop, Gate, SmallEtcd
 from tests.support.members import Members
 from tests.support.over_small_etcd import A1, A2, B1, Case, accepted, deaf, refused
 from tests.support.ports import free_ports
-from tests.support.program import LIST, TOP, publish, resolve, skip_without, unyank, yank
+from tests.support.program import LIST, TOP, publish, resolve, skip_without, yank
 
 
 class OverSmallEtcd(Case):
     # ---- what is answered
-
-    def test_every_kind_of_line(self):
-        lines = ['{"op":"resolve","nee', A1, resolve("a ^1"), resolve("a ^2"), yank("a", "1.0.0"),
-                 yank("a", "1.0.0"), LIST, '{"op":"publish","name":"a"}', publish("A", "1.0.0"), "",
-                 unyank("b", "1.0.0")]
-        given = "".join(line + "\n" for line in lines).encode()
-        at = '"place":%d,%s"revision":%d,"seat":7'
-        assert self.done("serve", "--seat", "7", given=given).split("\n") == [
-            refused(19, "BadLine", 0, 0, 7),
-            accepted(1, seat=7),
-            "{" + at % (1, "", 1) + ',"selected":[["a","1.0.0"]]}',
-            "{" + at % (1, '"refused":true,', 1) + "}",
-            accepted(2, seat=7),
-            refused(12, "AlreadyYanked", 3, 2, 7),
-            '{"packages":[["a",[["1.0.0",true]]]],' + at % (3, "", 2) + "}",
-            refused(19, "BadLine", 3, 2, 7),
-            refused(1, "BadName", 4, 2, 7),
-            refused(19, "BadLine", 4, 2, 7),
-            refused(11, "NoSuchVersion", 5, 2, 7), ""]
-        assert self.journal() == ("registry-journal 1\n" + program.journal_line(A1) + "\n"
-                         + program.journal_line(yank("a", "1.0.0")) + "\nend 2\n")
-
-    def test_lines_at_their_edges(self):
-        # a line of the longest kind, one that is longer, and a last one without its line feed
-        longest = b'{"op":"list"}' + b" " * (MOST_LINE_BYTES - len(LIST))
-        told = self.done("serve", given=longest + b"\n" + longest + b" \n" + LIST.encode())
-        listed = '{"packages":[],"place":0,"revision":0,"seat":1}\n'
-        assert told == listed + refused(19, "BadLine", 0, 0) + "\n" + listed
 
     def test_what_a_look_finds_counts_though_the_replica_was_asked_before(self):
         # an entry comes between the line and the read: the front had no reason to expect one
@@ -92,19 +62,6 @@ class OverSmallEtcd(Case):
             # it is begun again with the same lines, and the first stands where its first life had put it
             assert [front.ask(line)[0] for line in lines] == [accepted(place), accepted(place + 1)]
         assert len(self.cells()) == 5
-
-    def test_a_front_begun_again_answers_as_before(self):
-        lines = [A1, LIST, yank("a", "1.0.0"), yank("a", "1.0.0"), A1, B1]
-        given = "".join(line + "\n" for line in lines).encode()
-        told = [self.done("serve", "--writer", "w", given=given).split("\n") for _ in range(2)]
-        assert [told[0][n] for n in (0, 2, 3, 5)] == [told[1][n] for n in (0, 2, 3, 5)]
-        assert len(self.cells()) == 5
-        assert self.fails_with_lines("--writer", "w", lines=[B1]) == "registryd-etcd: line 1 of w was another before\n"
-
-    def fails_with_lines(self, *more, lines):
-        ended = fronts.run("serve", [self.gate.url], *more, given="".join(line + "\n" for line in lines).encode())
-        assert (ended.returncode, ended.stdout) == (1, b"")
-        return ended.stderr.decode()
 
     def test_a_write_that_comes_late_puts_nothing(self):
         late = []
@@ -228,63 +185,6 @@ class OverSmallEtcd(Case):
         self.done("found", "--prefix", "other")
         self.done("serve", "--prefix", "other", "--save", path)
         assert "is another than that under registry" in self.fails("serve", "--load", path)
-
-    def test_a_journal_is_founded_once_with_what_a_session_left(self):
-        assert "a journal stands under registry already" in self.fails("found")
-        assert "no journal was founded under new" in self.fails("serve", "--prefix", "new")
-        path = os.path.join(self.folder, "journal")
-        lines = (A2, B1, publish("b", "1.1.0", ["c ^1"]), publish("c", "1.0.0"), resolve("a ^2"))
-        program.run([*program.SERVE, "--save", path], "".join(f"{line}\n" for line in lines).encode())
-        self.done("found", "--prefix", "new", "--load", path)
-        told = self.done("serve", "--prefix", "new", given=(resolve("a ^2") + "\n" + A1).encode())
-        assert (told == '{"place":0,"revision":4,"seat":1,"selected":[["a","2.0.0"],["b","1.1.0"],["c",'
-                '"1.0.0"]]}\n' + accepted(1, 5) + "\n")
-        Path(path).write_text("registry-journal 1\n{}\nend 1\n", encoding="ascii")
-        assert "registryd: journal line 2" in self.fails("found", "--prefix", "bad", "--load", path)
-        assert "no journal was founded under bad" in self.fails("serve", "--prefix", "bad")
-
-    def test_a_journal_is_founded_with_what_a_killed_session_left(self):
-        path = os.path.join(self.folder, "journal")
-        held = Client([*program.SERVE, "--journal", path])
-        held.send([A2, B1])
-        assert held.read_until(2)
-        assert f"registryd: journal {path}: in use by another session" in self.fails("found", "--prefix",
-                "new", "--journal", path)
-        held.kill()
-        with open(path, "ab") as file:
-            file.write(b'{"name":"half')
-        self.done("found", "--prefix", "new", "--journal", path)
-        listed = '{"packages":[["a",[["2.0.0",false]]],["b",[["1.0.0",false]]]],"place":0,"revision":2,"seat":1}\n'
-        assert self.done("serve", "--prefix", "new", given=LIST.encode()) == listed
-        Path(path).write_text("registry-journal 1\n{}\n", encoding="ascii")
-        assert "line 2 is not a journal's" in self.fails("found", "--prefix", "bad", "--journal", path)
-        os.unlink(path)
-        assert "is not there" in self.fails("found", "--prefix", "bad", "--journal", path)
-        assert not os.path.exists(path)
-        assert "no journal was founded under bad" in self.fails("serve", "--prefix", "bad")
-
-    def test_a_front_keeps_no_journal(self):
-        path = os.path.join(self.folder, "journal")
-        for words in (["serve", "--journal", path], ["journal", "--journal", path],
-                      ["found", "--prefix", "new", "--load", path, "--journal", path]):
-            ended = fronts.run(*words[:1], [self.gate.url], *words[1:])
-            assert (ended.returncode, ended.stdout) == (2, b"")
-            assert b"--journal is for found alone" in ended.stderr
-        assert not os.path.exists(path)
-
-    def test_a_full_journal(self):
-        # one publication, and then it is yanked and taken back until one command less than a session accepts
-        most = MOST_COMMANDS
-        turns = [program.journal_line(yank("a", "1.0.0")), program.journal_line(unyank("a", "1.0.0"))]
-        lines = ["registry-journal 1", program.journal_line(A1), *(turns * most)[:most - 2], f"end {most - 1}", ""]
-        path = os.path.join(self.folder, "journal")
-        Path(path).write_text("\n".join(lines), encoding="ascii")
-        self.done("found", "--prefix", "full", "--load", path)
-        told = self.done("serve", "--prefix", "full", given="\n".join([*turns, B1,
-                                                                       resolve("a *", lock=["a 1.0.0"])]).encode())
-        assert told == (accepted(1, most) + "\n" + refused(10, "JournalFull", 2, most) + "\n"
-                        + refused(10, "JournalFull", 3, most)
-                        + f'\n{{"place":3,"revision":{most},"seat":1,"selected":[["a","1.0.0"]]}}\n')
 
     # ---- what lies
 

@@ -73,49 +73,26 @@ def test_what_a_front_is_told(monkeypatch):
     assert done == ["ended", "ended"]
 
 
-@pytest.fixture
-def ended(monkeypatch):
-    """Runs the command; answers how it ends. What it calls is noted with the endpoints, the cells and the words."""
-    def run(*given, fault=None):
-        run.called = []
-
-        def call(name):
-            def do(asked, cells):
-                run.called.append((name, asked.what, cells))
-                if fault:
-                    raise fault
-            return do
-        for name in ("found", "serve"):
-            monkeypatch.setattr(etcd, name, call(name))
-        for name, word in (("Cells", "cells"), ("Gateway", "gateway"), ("tls_context", "context")):
-            monkeypatch.setattr(etcd, name, lambda *given, word=word: (word, *given))
-        with words(*given):
-            return captured(etcd.main, "")
-    return run
-
-
-@pytest.mark.parametrize("what", ["found", "serve", "journal", "compact"])
-def test_what_is_called(what, ended):
-    plain = ("cells", ("gateway", HERE, None, 3.0, 60.0), "registry")
-    assert ended(what) == (0, "", "")
-    assert ended.called == [("found" if what == "found" else "serve", what, plain)]
-
-
 @pytest.mark.parametrize("given, context", [("--cacert ca", ("ca", None, None)),
                                             ("--cert c --key k", (None, "c", "k"))])
-def test_what_is_called_with_certificates(given, context, ended):
-    ended("serve", *given.split(" "), "--timeout", "1", "--patience", "2", "--prefix", "p")
-    assert ended.called[0][2] == ("cells", ("gateway", SECURE, ("context", *context), 1.0, 2.0), "p")
+def test_certificates(given, context, monkeypatch):
+    made = mock.Mock(side_effect=OSError("no"))
+    monkeypatch.setattr(etcd, "tls_context", made)
+    with words("serve", *given.split(" ")):
+        assert captured(etcd.main, "")[0] == 1
+    made.assert_called_once_with(*context)
 
 
 @pytest.mark.parametrize("fault, told", [
     (Fault("no member\n of  etcd"), "registryd-etcd: no member of etcd\n"), (BrokenPipeError(32, "Broken pipe"), ""),
-    (KeyboardInterrupt(), ""), (FileNotFoundError(2, "No such file", "a file"),
-                                "registryd-etcd: a file: No such file\n"),
+    (KeyboardInterrupt(), ""),
+    (FileNotFoundError(2, "No such file", "a file"), "registryd-etcd: a file: No such file\n"),
     (OSError(28, "No space left on device"), "registryd-etcd: the system: No space left on device\n"),
     (OSError("odd"), "registryd-etcd: the system: odd\n")])
-def test_how_it_ends(fault, told, ended):
-    assert ended("serve", fault=fault) == (1, "", told)
+def test_how_it_ends(fault, told, monkeypatch):
+    monkeypatch.setattr(etcd, "serve", mock.Mock(side_effect=fault))
+    with words("serve"):
+        assert captured(etcd.main, "") == (1, "", told)
 
 
 @pytest.mark.parametrize("stream", [None, mock.Mock(**{"write.side_effect": OSError()})])

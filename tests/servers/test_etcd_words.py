@@ -1,11 +1,8 @@
-"""The words of registryd-etcd: each wrong one is told in one line, and a front waits for members as long as it may."""
-import functools
-import os
-import re
+"""The words of registryd-etcd: each wrong one is told in one line, and a front waits for members as long as it may.
+`tests/transcripts/etcd_files.t` has what it says of files and programs."""
 import shlex
 import socket
 import subprocess
-import tempfile
 import time
 import unittest
 from pathlib import Path
@@ -16,99 +13,20 @@ from registry_etcd.gateway import Fault, Gateway, endpoints
 from tests.support import fronts, program
 from tests.support.fake_etcd import Drop
 from tests.support.over_small_etcd import A1, Case, accepted
-from tests.support.program import LIST, PROGRAM, TOP
-
-SEE = ": see registryd-etcd --help\n"
+from tests.support.program import LIST, TOP
 
 
-def typed(*words, **more):
-    """How registryd-etcd ends with these words."""
-    more = {"stdin": subprocess.DEVNULL, "stdout": subprocess.PIPE, "stderr": subprocess.PIPE, **more}
-    return subprocess.run([*fronts.ETCD, *words], timeout=100, **more)
-
-
-class TestWords:
-    def is_told(self, status, told, *words, **more):
-        done = typed(*words, **more)
-        assert (done.returncode, done.stdout or b"", done.stderr.decode()) == (status, b"",
-                f"registryd-etcd: {told}"), words
-
-    def test_words_that_can_not_be_meant(self):
-        rows = Path(TOP, "tests/support/data/etcd_words.txt").read_text(encoding="utf-8").splitlines()[1:]
-        for words, told in (
-            *((shlex.split(words), told) for words, _, told in (row.partition("=> ") for row in rows)),
-            (["serve", "--seat", "9" * 5000],
-             f"argument --seat: '{'9' * 5000}' is no whole number from 1 to 4294967295"),
-            (["serve", "--prefix", b"\xff"], "argument --prefix: '\\udcff' is no name"),
-            (["serve", "--writer", "a\nb"], "argument --writer: 'a\\nb' is no name"),
-        ):
-            self.is_told(2, told + SEE, *words)
-
-    def test_files_that_are_not_as_they_should_be(self):
-        with tempfile.TemporaryDirectory() as folder:
-            def path(name, text=None):
-                if text is not None:
-                    Path(folder, name).write_text(text, encoding="ascii")
-                return os.path.join(folder, name)
-            gone, text = path("gone"), path("text", "text")
-            for words, told in [
-                (["serve", "--cacert", gone], f"{gone}: No such file or directory"),
-                (["serve", "--cert", gone], f"{gone}: No such file or directory"),
-                (["found", "--load", gone], f"{gone} can't be read: No such file or directory"),
-                (["found", "--load", text], "this is no journal's file"),
-                (["found", "--load", folder], f"{folder} can't be read: Is a directory"),
-                (["found", "--journal", gone], f"{gone} is not there"),
-                (["serve", "--save", folder], f"{folder} can't be written: Is a directory"),
-                (["serve", "--save", path("gone/a")], f"{path('gone/a')} can't be written: No such file or directory"),
-            ]:
-                self.is_told(1, told + "\n", *words, "--program", PROGRAM)
-            said = typed("serve", "--cacert", text).stderr.decode()
-            assert re.search(rf"\Aregistryd-etcd: {text}: .+\n\Z", said)
-
-    def test_streams_that_are_closed(self):
-        for stream in (0, 1):
-            self.is_told(1, "its standard input and output have to be open\n", "serve",
-                         preexec_fn=functools.partial(os.close, stream), stdin=None, stdout=None)
-        done = typed("serve", "--load", "gone", preexec_fn=lambda: os.close(2), stderr=None)
-        assert (done.returncode, done.stdout) == (1, b"")
-
-
-class OverSmallEtcd(Case):
-    def ended(self, *words, given=b""):
-        done = typed(*words, stdin=None, input=given)
-        return done.returncode, done.stdout.decode(), done.stderr.decode()
-
-    def test_a_program_that_is_none(self):
-        host = self.gate.url.removeprefix("http://")
-        text, other = self.script("text",
-                                  "no program"), self.script("other",
-                                                             "#!/bin/sh\nwhile read -r line; do echo $line; done")
-        for path, told in [("/no/such", "/no/such: No such file or directory"),
-                           (self.folder, f"{self.folder}: Permission denied"),
-                           (text, f"{text}: Exec format error"), (other, f"{other} answers as registryd does not"),
-                           ("/bin/false", "the program does not begin with the journal: it ended with status 1")]:
-            assert self.ended("serve", "--endpoints", host, "--program", path) == (1, "", f"registryd-etcd: {told}\n")
-
-    def script(self, name, text):
-        path = os.path.join(self.folder, name)
-        with open(path, "w", encoding="ascii") as file:
-            os.fchmod(file.fileno(), 0o755)
-            file.write(text)
-        return path
-
-    def test_a_file_that_can_not_be_saved_is_told_before_lines_are_answered(self):
-        ended = fronts.run("serve", [self.gate.url], "--save", "/proc/no", given=A1.encode())
-        assert (ended.returncode, ended.stdout) == (1, b"")
-        assert list(self.cells()) == ["registry/cells/00000000"]
-
-    def test_a_reader_that_is_gone(self):
-        path = os.path.join(self.folder, "told")
-        words = " ".join(fronts.words("journal", [self.gate.url]))
-        self.done("serve", given="".join(program.publish("a", f"{n}.0.0") + "\n" for n in range(1500)).encode())
-        with open(path, "wb") as told:
-            shown = subprocess.run(["sh", "-c", f"{words} | head -1"], stdout=subprocess.PIPE, stderr=told, timeout=100)
-        assert shown.stdout == b"registry-journal 1\n"
-        assert Path(path).read_bytes() == b""
+def test_words_that_can_not_be_meant():
+    rows = Path(TOP, "tests/support/data/etcd_words.txt").read_text(encoding="utf-8").splitlines()[1:]
+    for words, told in (
+        *((shlex.split(words), told) for words, _, told in (row.partition("=> ") for row in rows)),
+        (["serve", "--seat", "9" * 5000], f"argument --seat: '{'9' * 5000}' is no whole number from 1 to 4294967295"),
+        (["serve", "--prefix", b"\xff"], "argument --prefix: '\\udcff' is no name"),
+        (["serve", "--writer", "a\nb"], "argument --writer: 'a\\nb' is no name"),
+    ):
+        done = subprocess.run([*fronts.ETCD, *words], stdin=subprocess.DEVNULL, capture_output=True, timeout=100)
+        wanted = 2, b"", f"registryd-etcd: {told}: see registryd-etcd --help\n"
+        assert (done.returncode, done.stdout, done.stderr.decode()) == wanted, words
 
 
 class Patience(unittest.TestCase):

@@ -1,4 +1,5 @@
 """Members of etcd for tests: runs that stand beside each other, and what is left of a run that is stopped."""
+import contextlib
 import os
 import subprocess
 import sys
@@ -10,7 +11,8 @@ from pathlib import Path
 from tests.support import program
 from tests.support.members import Members, is_installed, may_divide
 from tests.support.program import skip_without
-from tests.support.services import wait_for
+from tests.support.services import wait_for, words_of
+from tests.support.time_limit import children
 
 HISTORIES = "dev.long.etcd_histories"
 
@@ -48,8 +50,7 @@ class Case(unittest.TestCase):
         words = [sys.executable, program.TOP, HISTORIES, "--loopback", "--histories", "1", "--seconds", "60",
                  "--seed", "2"]
         with subprocess.Popen(words, stdout=subprocess.PIPE, stderr=subprocess.PIPE, cwd=self.folder,
-                              preexec_fn=program.heed_signals, env={**os.environ,
-                                                                    "REGISTRYD": program.PROGRAM}) as run:
+                              preexec_fn=program.heed_signals, env={**os.environ, "REGISTRYD": program.PROGRAM}) as run:
             run.stdout.readline()
             # its fronts have begun, and are asked
             wait_for(lambda: len(self.of(run.pid, "--seat")) == 4)
@@ -65,11 +66,8 @@ class Case(unittest.TestCase):
     def of(process, option):
         """What the processes that this one has begun are given as an option."""
         found = []
-        for path in Path("/proc").glob("[0-9]*/stat"):
-            try:
-                if int(path.read_text(errors="replace").rpartition(")")[2].split()[1]) == process:
-                    words = Path(path.parent, "cmdline").read_text().split("\0")
-                    found += [after for word, after in zip(words, words[1:]) if word == option]
-            except OSError:
-                pass
+        for child in children(process):
+            with contextlib.suppress(OSError):
+                words = words_of(child).decode().split("\0")
+                found += [after for word, after in zip(words, words[1:]) if word == option]
         return found

@@ -24,6 +24,13 @@ class Journals(Served):
         assert self.told("package", name="apps")["newest"] == "1.0.0"
         assert self.told("resolve", need="web")["selected"][0]["name"] == "apps"
 
+    def test_each_selection_is_the_newest(self):
+        # a search that takes the highest version of b first finds another one
+        self.serve(publish("a", "2.0.0"), publish("a", "3.0.0", ["b =1.0.0"]), publish("b", "1.0.0"),
+                   publish("b", "2.0.0"))
+        selected = self.told("resolve", need=["a", "b"])["selected"]
+        assert {it["name"]: it["version"] for it in selected} == {"a": "3.0.0", "b": "1.0.0"}
+
     def test_another_session_holds_it(self):
         with talking(["serve", "--workers", "1", f"--journal={self.journal}"]) as client:
             client.stdin.write(b"".join(it.encode() + b"\n" for it in WORKED))
@@ -136,10 +143,3 @@ class Command(Served):
             assert f"port {port} can't be taken" in taken[2]
             assert said == ("" if words
                             else f"registry: {self.journal} is shown there, to this machine only; Ctrl-C ends it\n")
-
-    def test_words(self):
-        assert self.registry("page")[0] == 3  # there is no journal
-        self.hold(*WORKED)
-        for words in (["--port", "65536"], ["--port", "x"], ["--seconds", "0"], ["log"]):
-            status, said, fault = self.registry("page", *words)
-            assert (status, said, fault.count("\n")) == (2, "", 1), words

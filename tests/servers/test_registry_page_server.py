@@ -4,6 +4,7 @@ import os
 import re
 import socket
 from html.parser import HTMLParser
+from pathlib import Path
 
 import pytest
 
@@ -12,7 +13,9 @@ from registry_cli.page.server import FILES
 from tests.program.test_registry_why import BRANCHING
 from tests.support.called import registry
 from tests.support.page_served import WORKED, Served
+from tests.support.program import TOP
 
+ROWS = json.loads(Path(TOP, "tests/support/data/service_rows.json").read_text(encoding="ascii"))
 METHODS = ("POST", "PUT", "PATCH", "DELETE", "OPTIONS", "TRACE", "CONNECT")
 
 
@@ -46,14 +49,10 @@ class Requests(Served):
 
     def test_hosts(self):
         port = self.server.port
-        for hosts in ([f"127.0.0.1:{port}"], [f"localhost:{port}"], [f"LocalHost:{port}"]):
-            assert self.ask("/api/status", host=hosts)[0] == 200, hosts
-        for hosts in ([], ["127.0.0.1"], ["localhost"], [f"127.0.0.1:{port + 1}"], [f"evil.example:{port}"],
-                      ["evil.example"], [f"127.0.0.1.evil.example:{port}"], [f"0.0.0.0:{port}"],
-                      [f"user@127.0.0.1:{port}"], [f"127.0.0.1:{port}", "evil.example"], [""]):
+        for hosts, wanted in [*ROWS["page hosts"], ([f"127.0.0.1:{port + 1}"], 421)]:
             for path in ("/", "/api/status"):
-                status, _, text = self.ask(path, host=hosts)
-                assert (status, b"revision" in text) == (421, False), hosts
+                status, _, text = self.ask(path, host=[it.replace("PORT", str(port)) for it in hosts])
+                assert (status, b"revision" in text) == (wanted, (wanted, path) == (200, "/api/status")), hosts
         assert self.ask("http://evil.example/api/status")[0] == 421
         for site, status in (("cross-site", 403), ("same-site", 403), ("same-origin", 200), ("none", 200)):
             assert self.ask("/api/status", Sec_Fetch_Site=site)[0] == status, site
@@ -90,9 +89,7 @@ class Requests(Served):
                 status, headers, text = self.ask("/" + name)
                 assert (status, headers["Content-Type"], text) == (200, kinds[name.partition(".")[2]], file.read())
         assert self.ask("/")[2] == self.ask("/page.html")[2]
-        for path in ("/../server.py", "/%2e%2e/server.py", "/files/page.html", "/page.html/",
-                     "/../../../../etc/passwd", "/api/", "/api", "/api/../page.html", "/server.py",
-                     "/.", "/page.html%00", "/PAGE.HTML", "/registry.journal", "/api/status/", "/api/__class__"):
+        for path in ROWS["no page"]:
             assert self.ask(path)[0] == 404, path
         assert self.ask("/page.html?x=1#y")[0] == 200
 

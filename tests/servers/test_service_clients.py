@@ -2,13 +2,15 @@
 and what it may take."""
 import json
 import random
+from pathlib import Path
 from types import SimpleNamespace
 from unittest import mock
 
 from registry_service import client, ops
 from tests.support.made_lines import Maker
-from tests.support.program import LIST, publish, resolve, yank
+from tests.support.program import LIST, TOP, publish, resolve, yank
 
+ROWS = json.loads(Path(TOP, "tests/support/data/service_rows.json").read_text(encoding="ascii"))
 A1 = publish("a", "1.0.0").encode()
 ASK = resolve("a *").encode()
 BAD = b'{"error":19,"name":"BadLine","revision":4}\n'
@@ -93,24 +95,16 @@ class TestClients:
         return [it.line for it in self.service.asked]
 
     def test_what_a_line_asks(self):
-        for line, wanted in ((ASK, "resolve"), (A1, "publish"), (LIST.encode(), "list"), (b'{"op":"check"}', "check"),
-                             (b'{"op":"learn"}', ""), (b'{"op":1}', ""), (b"[]", ""), (b"{}", ""), (b"", ""),
-                             (b"\xff", ""), (b"[" * 100_000, ""), (yank("a", "1.0.0").encode(), "yank"),
-                             (b'{"op":"unyank"}', "unyank")):
+        known = (ASK, "resolve"), (A1, "publish"), (LIST.encode(), "list"), (yank("a", "1.0.0").encode(), "yank")
+        rows = ((line.encode("latin-1"), wanted) for line, wanted in ROWS["ops"])
+        for line, wanted in (*known, *rows, (b"[" * 100_000, "")):
             assert ops.op_of(line) == wanted, line[:20]
 
     def test_what_a_long_line_asks(self):
         long = b"[" + b"[]," * 1_000 + b"0]"
-        for line, wanted in ((b'{"op":"list","x":%s}', "list"), (b'{"x":%s , "op" : "yank"}', "yank"),
-                             (b'{"\\u006fp":"publ\\u0069sh","x":%s}', "publish"),
-                             (b'{"\\u006F\\u0070":"\\u0063heck","x":%s}', "check"), (b'{"op":"learn","x":%s}', ""),
-                             (b'{"op":1,"x":%s}', ""), (b'{"x":%s}', ""), (b"%s", ""),
-                             (b'{"op":"resolve","lock":[["op","1.0.0"]],"x":%s}', "resolve"),
-                             # what seems to name it more than once is no line that is asked
-                             (b'{"op":"list","op":"yank","x":%s}', None),
-                             (b'{"op":"list","x":%s,"\\u006fp":"yank"}', None),
-                             (b'{"op":"list","x":[{"op":1},%s]}', None)):
-            assert ops.op_of(line % long) == wanted, line
+        # what seems to name it more than once is no line that is asked
+        for line, wanted in ROWS["long ops"]:
+            assert ops.op_of(line.encode() % long) == wanted, line
         for line in (b'{"op":"list","x":%s,"op":"yank"}' % long, LIST.encode()):
             self.client.data_received(line + b"\n")
         assert [(it.line, it.op) for it in self.service.asked] == [(b"", "")]

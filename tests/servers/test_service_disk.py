@@ -6,8 +6,8 @@ import os
 import random
 import signal
 import subprocess
-import threading
 import time
+from concurrent.futures import ThreadPoolExecutor
 from pathlib import Path
 from unittest import mock
 
@@ -116,16 +116,15 @@ class Full(Faulty):
     def test_what_is_refused_is_never_accepted(self):
         """Clients send many lines at once while the disk fills up, and again each time there is room."""
         service, rng, accepted, refusals, unknown = self.begin(changes=QUICK), random.Random(3), {}, set(), set()
+        floods = []
         for number in range(3):
-            threads = [threading.Thread(target=self.flood, args=(service, f"p{number}-{place}",
-                                                                 rng.randrange(1_000), accepted, refusals, unknown))
-                       for place in range(4)]
             self.fill()
             os.truncate(self.other, self.other.stat().st_size - SOME_LINES)
-            for it in threads:
-                it.start()
-            for it in threads:
-                it.join()
+            with ThreadPoolExecutor(4) as pool:
+                for place in range(4):
+                    given = service, f"p{number}-{place}", rng.randrange(1_000), accepted, refusals, unknown
+                    floods.append(pool.submit(self.flood, *given))
+            assert [it.exception() for it in floods] == [None] * len(floods)
             wait_for(lambda: service.get("/health") == (503, FULL + "\n"))
             # those lines may all have come before the disk was full: what comes now is refused at once
             self.flood(service, f"p{number}-4", rng.randrange(1_000), accepted, refusals, unknown)

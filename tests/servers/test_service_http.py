@@ -1,58 +1,15 @@
-"""Connections on which HTTP is spoken are within the bounds of a service, and never stop it from telling how it is."""
+"""Copies of a service's journal are told over HTTP in pieces, and never stop it from telling how it is.
+`tests/transcripts/watching.t` has what places such connections take."""
 import os
-import threading
+from concurrent.futures import ThreadPoolExecutor
 from pathlib import Path
 
 from tests.program.test_journals import journal
-from tests.support.program import LIST, publish
-from tests.support.services import Case, wait_for
+from tests.support.program import publish
+from tests.support.services import Case, Client, wait_for
 
-TOO_MANY = b'{"error":503,"name":"TooManyClients","revision":0}\n'
-EMPTY = {"packages": [], "revision": 0}
 COMMANDS = 2_000
 MORE = 12 << 20  # bytes of memory that a service may take for copies of its journal, which would be 36 million
-
-
-class Places(Case):
-    def half(self, service):
-        """A connection on which a request over HTTP has begun."""
-        made = self.enterContext(service.client())
-        made.socket.sendall(b"GET /health HTTP/1.1\r\n")
-        return made
-
-    def test_they_count_among_the_clients(self):
-        service = self.begin("--clients", 2)
-        one, _ = self.half(service), self.half(service)
-        with service.client() as client:
-            client.send(LIST)
-            assert client.rest() == TOO_MANY
-        assert b"200 OK" in one.finish(b"Host: localhost\r\n\r\n")
-        wait_for(lambda: self.is_answered(service))
-        wait_for(lambda: "registryd_clients 0\n" in service.get("/metrics")[1])
-        with service.client() as client:
-            # and who asks lines has a place that one over HTTP lacks
-            assert client.ask(LIST) == [EMPTY]
-            assert service.get("/journal")[0] == 503
-        self.ends_well(service)
-
-    @staticmethod
-    def is_answered(service):
-        with service.client() as client:
-            return client.ask(LIST) == [EMPTY]
-
-    def test_health_and_counts_are_told_where_there_is_no_room(self):
-        service = self.begin("--clients", 1)
-        with service.client() as client:
-            client.ask(LIST)
-            assert service.get("/health") == (200, "ok\n")
-            assert "registryd_clients 1\n" in service.get("/metrics")[1]
-            assert service.get("/journal") == (503, "as many clients as are allowed are connected\n")
-            # also beside some who wait, and these are let go soon
-            waiting = [self.enterContext(service.client()) for _ in range(10)]
-            assert service.get("/health") == (200, "ok\n")
-            assert {it.rest() for it in waiting} == {TOO_MANY}
-            assert client.ask(LIST) == [EMPTY]
-        self.ends_well(service)
 
 
 class Copies(Case):
@@ -83,11 +40,8 @@ class Copies(Case):
         assert service.get("/health") == (200, "ok\n")
         assert self.memory(service) - before < MORE
         # once they read, each has a whole one
-        threads = [threading.Thread(target=it.rest) for it in asked]
-        for it in threads:
-            it.start()
-        for it in threads:
-            it.join()
+        with ThreadPoolExecutor(len(asked)) as pool:
+            list(pool.map(Client.rest, asked))
         whole = journal(self.lines).splitlines()[:-1]
         for it in asked:
             head, _, text = it.read.partition(b"\r\n\r\n")

@@ -1,6 +1,6 @@
 """What a service answers is what the program answers: the same bytes in the order of each client's lines, however many
-there are."""
-import contextlib
+there are. `tests/transcripts/watching.t` has what is no request."""
+import functools
 import itertools
 import json
 import os
@@ -9,13 +9,14 @@ import re
 import socket
 import threading
 from collections import deque
+from concurrent.futures import ThreadPoolExecutor
 
 import pytest
 
 from registry_service.child import Child
 from tests.support.made_lines import Maker
 from tests.support.program import LIST, PATIENCE, SERVE, publish, resolve, run, yank
-from tests.support.services import Case, Client, wait_for
+from tests.support.services import Case, wait_for
 from tests.support.tables import tables_under
 
 MOST_LINE_BYTES = 1_048_576
@@ -71,20 +72,9 @@ class Order(Case):
     def test_twenty_clients_at_once(self):
         """Each client's replies come in its order, at revisions that never fall, and each sees what it was told
         before."""
-        service, faults = self.begin(), []
-
-        def talk(number):
-            try:
-                self.talk(service, number)
-            except BaseException as fault:
-                faults.append((number, fault))
-
-        threads = [threading.Thread(target=talk, args=(number,)) for number in range(20)]
-        for it in threads:
-            it.start()
-        for it in threads:
-            it.join()
-        assert faults == []
+        service = self.begin()
+        with ThreadPoolExecutor(20) as pool:
+            list(pool.map(functools.partial(self.talk, service), range(20)))
         self.ends_well(service)
         assert len(service.commands()) == 20 * 30
 
@@ -133,16 +123,6 @@ class Bounds(Case):
                  b'":2}\n{"error":12,"name":"AlreadyYanked","revision":2}\n')
         assert told[1] == told[2] and told[1].startswith(again), told[1]
 
-    def test_no_more_clients_than_may_be(self):
-        service = self.begin("--clients", 2)
-        with service.client() as one, service.client() as two:
-            assert [it.ask(LIST)[0]["revision"] for it in (one, two)] == [0, 0]
-            with service.client() as three:
-                assert three.rest() == b'{"error":503,"name":"TooManyClients","revision":0}\n'
-            assert two.finish() == b""
-            with service.client() as four:
-                assert four.ask(LIST)[0]["revision"] == 0
-
     def test_a_client_that_does_not_read_is_cut_off_and_holds_up_nobody(self):
         service = self.begin(changes=[("client", "STALLED", 1)])
         with service.client() as busy:
@@ -177,37 +157,6 @@ class Bounds(Case):
         self.ends_well(service)
         commands = service.commands()
         assert [json.loads(it)["version"] for it in commands] == [f"1.{minor}.0" for minor in range(len(commands))]
-
-    def test_what_a_page_in_a_browser_sends_is_no_request(self):
-        """A page from elsewhere can have a browser send any text behind a head of HTTP."""
-        service = self.begin("--port", 0)
-        for method, path, status in (("POST", "/", b"405 Method Not Allowed"),
-                                     ("PUT", "/", b"405 Method Not Allowed"),
-                                     ("OPTIONS", "/", b"405 Method Not Allowed"),
-                                     ("POST", "/ HTTP/1.1", b"400 Bad Request")):
-            text = (f"{method} {path} HTTP/1.1\r\nHost: localhost\r\nContent-Length: "
-                    f"60\r\n\r\n{publish('log', '1.0.0')}\n")
-            with self.subTest(text[:20]), Client(service.address()) as client:
-                assert b"HTTP/1.1 " + status + b"\r\n" in client.finish(text.encode())
-        self.nothing_is_published(service)
-
-    def test_what_is_meant_for_someone_else_is_no_request(self):
-        """As where a browser is led to speak another protocol here: behind a first line that begins no object
-        nothing is carried out."""
-        service, command = self.begin("--port", 0), publish("log", "1.0.0").encode() + b"\n"
-        for begun in (b"\x16\x03\x01\x02\x00\x01\x00\x01\xfc\x03\x03", b"\x16\x03\x01\n",
-                      b"GET /\r\n", b"PRI * HTTP/2.0\r\n\r\nSM\r\n\r\n", b"M-SEARCH * HTTP/1.1\r\n\r\n",
-                      b"USER x\r\n", b"\nHELO x\r\n", b"[]\n", b"POST /" + b"a" * (MOST_LINE_BYTES - 100)
-                      + b" HTTP/1.1\r\n\r\n", b"POST /" + b"a" * 3_000_000 + b" HTTP/1.1\r\n\r\n"):
-            # it is closed before all is sent
-            with self.subTest(begun[:20]), Client(service.address()) as client, contextlib.suppress(OSError):
-                told = client.finish(begun + b"\n" + command)
-                assert set(told.splitlines()) - {b'{"error":19,"name":"BadLine","revision":0}'} == set()
-        self.nothing_is_published(service)
-
-    def nothing_is_published(self, service):
-        with service.client() as client:
-            assert client.ask(LIST) == [{"packages": [], "revision": 0}]
 
 
 class TestPieces:

@@ -3,13 +3,12 @@ import json
 import os
 import re
 import signal
-import socket
-from contextlib import closing
+from contextlib import closing, suppress
 from http.client import HTTPConnection
-from pathlib import Path
 
 from tests.support.program import publish
 from tests.support.services import Case, wait_for, words_of
+from tests.support.time_limit import children
 
 
 class Pages(Case):
@@ -31,14 +30,10 @@ class Pages(Case):
     @staticmethod
     def pages(service):
         """The processes of its page."""
-        for path in Path("/proc").glob("[0-9]*/stat"):
-            try:
-                state, parent, *_ = path.read_text(errors="replace").rpartition(")")[2].split()
-                is_own = int(parent) == service.running.pid and state not in "ZX"
-                if is_own and b"\0page\0" in words_of(path.parent.name):
-                    yield int(path.parent.name)
-            except OSError:
-                pass
+        for process in children(service.running.pid):
+            with suppress(OSError):
+                if b"\0page\0" in words_of(process):
+                    yield process
 
     def test_it_shows_what_is_accepted(self):
         service = self.begin("--page-port", 0)
@@ -84,12 +79,3 @@ class Pages(Case):
         service = self.begin("--page-port", 0)
         status, said = service.end()
         assert (status, said) == (0, "")
-
-    def test_a_port_that_is_taken(self):
-        with socket.socket() as taken:
-            taken.bind(("127.0.0.1", 0))
-            taken.listen()
-            status, said = self.begin("--page-port", taken.getsockname()[1]).wait()
-        assert status == 3
-        assert "can't be taken" in said
-        assert sorted(os.listdir(self.folder)) == ["team.journal"]

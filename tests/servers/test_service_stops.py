@@ -15,7 +15,7 @@ from tests.support.preloaded import built
 from tests.support.processes import is_idle, is_running
 from tests.support.program import LIST, journal_line, publish, resolve
 from tests.support.registry_folder import pigeons
-from tests.support.services import LONG, PATIENT, Case, Service, kill, wait_for
+from tests.support.services import LONG, PATIENT, Case, kill, wait_for
 
 ENDED = 45  # seconds in which it has ended, on a busy machine too: what it must not wait for takes a minute here
 
@@ -254,18 +254,3 @@ class Kills(Case):
         assert errors.read_text().count("changed by another program, and not gone on with") == 4
         service.end()
         assert service.commands() == [journal_line(publish("log", f"1.{minor}.0")).encode() for minor in range(4)]
-
-    def test_a_second_service_and_a_damaged_journal_are_told(self):
-        service = self.begin()
-        other = Service(self.folder, "--port", 0)
-        self.addCleanup(self.leave, other)
-        status, told = other.wait()
-        assert (status,
-                told) == (3,
-                          f"registry: {service.journal} is in use by another session: try again once that has ended\n")
-        assert service.end()[0] == 0
-        service.journal.write_text("registry-journal 2\nnonsense\nend 1\n")
-        status, told = self.begin().wait()
-        assert status == 3
-        assert f"{service.journal}: line 2 is at fault" in told
-        assert told.count("\n") == 1

@@ -1,6 +1,5 @@
-"""What is seen of a service from outside: counts, whether it is well, the journal, the log, and what it says as it
-begins."""
-import json
+"""What is seen of a service from outside: counts, whether it is well, and what systemd is told.
+`tests/transcripts/watching.t` has the journal, the log, and what it says as it begins."""
 import math
 import os
 import re
@@ -9,8 +8,7 @@ import socket
 import sys
 from pathlib import Path
 
-from tests.support.called import registry
-from tests.support.program import LIST, publish, resolve, run, yank
+from tests.support.program import LIST, publish, resolve, yank
 from tests.support.services import Case, Client, wait_for
 
 SAMPLE = re.compile(r'([a-zA-Z_:][a-zA-Z0-9_:]*)(?:\{((?:[a-zA-Z_][a-zA-Z0-9_]*="(?:[^"'
@@ -132,53 +130,6 @@ class Watching(Case):
         assert [address for address, _ in self.listening(service)] == [here, here]
         assert service.address()[1] in [port for _, port in self.listening(service)]
 
-    def test_the_journal_as_it_stands(self):
-        service = self.begin()
-        lines = [publish("log", "1.0.0"), publish("app", "1.0.0", ["log *"]), yank("log", "1.0.0")]
-        with service.client() as client:
-            client.ask(*lines)
-        assert service.get("/journal?revision=4") == (404, "the journal is at revision 3\n")
-        for target, count in (("/journal", 3), ("/journal?revision=2", 2), ("/journal?revision=0", 0),
-                              ("/journal?revision=3", 3)):
-            status, text = service.get(target)
-            copy = Path(self.folder, "copy")
-            copy.write_text(text)
-            done = run(["serve", "--workers", "1", "--load", str(copy)], LIST.encode())
-            assert (status, done.returncode, json.loads(done.stdout)["revision"]) == (200, 0, count)
-
-    def test_the_log(self):
-        log = Path(self.folder, "log")
-        service = self.begin("--readers", 1, "--log", log)
-        with service.client() as client:
-            client.ask(publish("log", "1.0.0"), resolve("log *"), resolve("app *"), "x")
-        with service.client() as client:
-            client.ask(yank("log", "2.0.0"))
-        log.rename(log.with_name("log.1"))
-        service.running.send_signal(signal.SIGHUP)
-        wait_for(log.exists)
-        with service.client() as client:
-            client.ask(LIST)
-        assert service.end() == (0, "")
-        rows = [dict(it.split("=", 1) for it in line.split(" ")[1:]) for line
-                in log.with_name("log.1").read_text().splitlines()]
-        assert [(it["op"], it["reply"]) for it in rows] == [("publish", "accepted"), ("resolve", "selected"),
-                                                            ("resolve", "refused"), ("other", "BadLine"),
-                                                            ("yank", "NoSuchVersion")]
-        assert [(it.get("package"), it.get("version")) for it in rows] == [("log", "1.0.0"), (None, None),
-                                                                           (None, None), (None, None), ("log", "2.0.0")]
-        assert [it["connection"] for it in rows] == ["1", "1", "1", "1", "2"]
-        for it in rows:
-            assert re.search(rf"^user:{os.getuid()}:process:{os.getpid()}$", it["client"])
-            assert re.search(r"^[0-9]+\.[0-9]{6}$", it["seconds"])
-        assert re.search(r"^20\d\d-\d\d-\d\dT\d\d:\d\d:\d\d\.\d{3}Z client=\S+ connection=3 op=list .*\n$",
-                         log.read_text())
-
-    def test_a_log_on_a_full_disk_stops_nothing(self):
-        service = self.begin("--log", "/dev/full")
-        with service.client() as client:
-            assert client.ask(publish("log", "1.0.0"), LIST)[1]["revision"] == 1
-        assert service.end()[0] == 0
-
     def test_systemd_is_told(self):
         path = os.path.join(self.folder, "notify")
         with socket.socket(socket.AF_UNIX, socket.SOCK_DGRAM) as heard:
@@ -190,52 +141,3 @@ class Watching(Case):
             assert heard.recv(100) == b"READY=1"
             assert service.end() == (0, "")
             assert heard.recv(100) == b"STOPPING=1"
-
-    def test_a_socket_and_a_port(self):
-        service = self.begin("--socket", os.path.join(self.folder, "socket"), "--port", 0)
-        [(_, port)] = self.listening(service)
-        assert service.begun == f"{service.journal} is served at {service.socket} and 127.0.0.1:{port} (revision 0)\n"
-        for address, revision in ((service.socket, 1), (("127.0.0.1", port), 2)):
-            with Client(address) as client:
-                assert client.ask(publish("log", f"{revision}.0.0")) == [{"ok": True, "revision": revision}]
-        self.ends_well(service)
-        assert not os.path.exists(service.socket)
-
-    def test_one_that_can_t_begin_leaves_nothing(self):
-        """Neither a journal that nobody asked for, nor a socket on which nobody listens; and that of another
-        service stays."""
-        with socket.socket() as taken, socket.socket(socket.AF_UNIX) as other:
-            taken.bind(("127.0.0.1", 0))
-            other.bind(os.path.join(self.folder, "other"))
-            other.listen()
-            port = taken.getsockname()[1]
-            for words, told in ((["--metrics-port", port], f"port {port} can't be taken"),
-                                (["--port", port], f"port {port} can't be taken"),
-                                (["--port", port, "--socket", f"{self.folder}/socket"], f"port {port} can't be taken"),
-                                (["--socket", f"{self.folder}/other"], "another service answers there")):
-                status, said = self.begin(*words).wait()
-                assert status == 3
-                assert told in said
-                assert os.listdir(self.folder) == ["other"], words
-        os.unlink(os.path.join(self.folder, "other"))
-        Path(self.folder, "team.journal").write_text("nonsense\n")
-        assert self.begin().wait()[0] == 3
-        assert os.listdir(self.folder) == ["team.journal"]
-
-    def test_wrong_words(self):
-        done = registry("serve", "--journal", os.path.join(self.folder, "team.journal"))
-        assert done == (2, "", "registry: a service listens on --socket PATH, on --port N, or on both\n")
-        for words, told in ((["--group", "nobody-of-this-name", "--socket",
-                              "x"], "there is no group nobody-of-this-name"),
-                            (["--port", "0", "--group", "daemon"], "--group needs --socket"),
-                            (["--port", "0", "--mode",
-                              "777"], "argument --mode: invalid choice: '777' (choose from '600', '660', '666')"),
-                            (["--port", "0", "--log", "/nowhere/log"], "/nowhere/log: No such file or directory"),
-                            (["--socket",
-                              "/nowhere/socket"],
-                             "/nowhere/socket: a socket can't be made there: No such file or directory")):
-            service = self.begin("--port", *words[1:]) if words[0] == "--port" else self.begin(*words)
-            status, said = service.wait()
-            assert status in (2, 3)
-            assert said.count("\n") == 1, said
-            assert told in said

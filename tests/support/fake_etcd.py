@@ -1,7 +1,9 @@
 """A gate before etcd's JSON gateway, which may lose what is asked or what is answered; and a small etcd to stand behind
 it where none is installed. The small one has what the fronts use, as etcd's documents tell it, and no more."""
+import contextlib
 import json
 import threading
+import time
 from base64 import b64decode, b64encode
 from http.server import BaseHTTPRequestHandler, ThreadingHTTPServer
 
@@ -192,3 +194,16 @@ class SmallEtcd:
                 self.changed.wait_for(lambda: len(self.events) > seen)
                 news, seen = self.events[seen:], len(self.events)
             yield {"events": [event for key, event in news if first <= key < end]}
+
+
+def main():
+    """Tells where a small etcd listens, and goes on as long as somebody reads that: a transcript's shell."""
+    print(Gate(SmallEtcd()).url, flush=True)
+    with contextlib.suppress(BrokenPipeError):
+        while True:
+            time.sleep(1)
+            print(flush=True)
+
+
+if __name__ == "__main__":
+    main()

@@ -48,6 +48,25 @@ LOST = [
 ]
 
 
+@contextlib.contextmanager
+def answering(path, text):
+    """Who connects there is answered by a text, and no more, whatever it asks."""
+    with socket.socket(socket.AF_UNIX) as listening:
+        listening.bind(path)
+        listening.listen()
+
+        def run():
+            connection, _ = listening.accept()
+            with connection:
+                connection.recv(100)
+                connection.sendall(text.encode())
+        thread = threading.Thread(target=run)
+        thread.start()
+        yield
+        thread.join()
+    os.unlink(path)
+
+
 class Scripted:
     """Each connection has its first line answered by the revision, and then, once so many lines came, gets the text of
     the next script; it is closed then, or left open where the text ends by `...`. After the last script nobody listens
