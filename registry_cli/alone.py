@@ -33,7 +33,6 @@ class Alone:
         bar.end()
 
     def ranked(self) -> list[tuple[str, list[str]]]:
-        """The obstacles with their packages, those of the most packages first."""
         return sorted(self.obstacles.items(), key=lambda it: -len(it[1]))
 
     def lines(self) -> Iterator[str]:
@@ -43,7 +42,6 @@ class Alone:
             yield f"in the way: {told}: {len(names)} (first: {names[0]})"
 
     def value(self) -> dict[str, object]:
-        """The same for JSON."""
         return {"requested": len(self.asked), "selected": self.selected,
                 "in_the_way": [{"what": told, "packages": names} for told, names in self.ranked()]}
 
@@ -53,8 +51,7 @@ def request(name: str) -> Request:
 
 
 def obstacles(reply: Reply) -> list[str]:
-    """What a refusal rests on: requirements that no version meets, and packages of which two versions are needed; else
-    what is yanked."""
+    """What a refusal rests on: unmet requirements and packages needed in two versions, else what is yanked."""
     if "error" in reply:
         return [f"no answer within {BUDGET} conflicts" if reply["error"] == 22 else reply["name"]]
     facts = [cause for row in reply.get("derivation", []) for cause in row["causes"]]

@@ -25,7 +25,6 @@ MOST_NAMED = 4
 
 
 def told_needs(needs: Pairs) -> str:
-    """What is asked for, in short."""
     told = [f"{name} {requirement}" for name, requirement in needs]
     more = [f"{len(told) - MOST_NAMED} more"] if len(told) > MOST_NAMED else []
     return ", ".join([*told[:MOST_NAMED], *more]) or "no needs"
@@ -45,8 +44,7 @@ def hints(derivation: Derivation) -> Iterator[str]:
 
 
 class Case:
-    """A request with its reply. `registry` answers the registry in Python, with some packages; `ask` asks the program
-    again, and `put` puts a question that no request asks; `names` are the published packages."""
+    """`registry` answers one in Python with some packages, `ask` asks the program, `put` puts what no request asks."""
 
     def __init__(self, request: Object, reply: Reply | None, registry: RegistryOf, ask: Ask | None,
                  names: Collection[str] = (), told: str = "", put: Put | None = None) -> None:
@@ -62,7 +60,6 @@ class Case:
         return self.reply["revision"]
 
     def title(self) -> str:
-        """What was asked, in short."""
         return self.told + told_needs(self.request["needs"])
 
     def again(self, question: Question | None = None, lock: Pairs | None = None) -> Reply:
@@ -82,13 +79,11 @@ class Case:
         return reply
 
     def answer(self) -> list[str]:
-        """What was asked and how it was answered, as lines."""
         if "selected" in self.reply:
             return self.selection(f"{self.title()}: selected at revision {self.revision}", self.selected())
         return self.refusal(f"{self.title()}: refused at revision {self.revision}", self.request, self.reply)
 
     def selected(self) -> dict[str, str]:
-        """The versions by package that the reply has."""
         has_form = formed(self.reply["selected"], PAIRS)
         demand(has_form, f"{self.title()}: the reply has no selection of the right form", Refused)
         return dict(self.reply["selected"])
@@ -114,7 +109,6 @@ class Case:
 
     def refusal(self, title: str, request: Request, reply: Reply, asked: tuple[str, str] | None = None,
                 failed: str = FAILED) -> list[str]:
-        """The English of a refusal, and what there is instead of what it misses."""
         return self.english(self.derivation(title, request, reply, asked), title, failed)
 
     def english(self, derivation: Derivation, title: str, failed: str) -> list[str]:
@@ -146,7 +140,6 @@ class Case:
         return self.with_version(name, release.text, selected)
 
     def with_version(self, name: str, text: str, selected: Mapping[str, str]) -> list[str]:
-        """What is answered where just this version is asked for."""
         question, title = Question(self.request, {name: text}), self.title()
         failed = f"{name} {text} can't be selected"
         reply = self.again(question)
@@ -164,8 +157,7 @@ class Case:
         return [*lines, *further]
 
     def before(self, name: str, text: str, selected: Mapping[str, str]) -> dict[str, str]:
-        """The selected versions that come before a package in the walk, where this version would be preferred to the
-        selected one."""
+        """What comes before a package in the walk, where this version would be preferred to the selected one."""
         if name not in selected or not is_preferred(text, selected[name], dict(self.request["lock"]).get(name)):
             return {}
         order = walk(self.request["needs"], selected, self.registry(selected))
@@ -193,7 +185,6 @@ class Case:
         return dict(reply["selected"])
 
     def instead(self, name: str, text: str, selected: Mapping[str, str]) -> str:
-        """What was selected instead of a version, and how it differs."""
         if name not in selected:
             return f"no version of {name} was selected, since nothing that was selected needs one"
         chosen, locked = selected[name], dict(self.request["lock"]).get(name)

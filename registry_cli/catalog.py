@@ -40,7 +40,6 @@ class Version(namedtuple("Version", "text is_yanked needing", defaults=[b"[]"]))
 
     @property
     def needs(self) -> Pairs:
-        """Pairs of a name and a requirement."""
         pairs: Pairs = json.loads(self.needing)
         return pairs
 
@@ -60,21 +59,18 @@ def precedence(text: str) -> Precedence:
 
 @lru_cache(maxsize=None)
 def rank(text: str) -> tuple[bool, Precedence]:
-    """A published version as what is taken where nothing else is asked for: a pre-release only where there is nothing
-    else."""
+    """By what is taken where nothing else is asked for: a pre-release only where there is nothing else."""
     numbers = precedence(text)
     return numbers[3] == RELEASE, numbers
 
 
 def newest(versions: Sequence[Yanked]) -> Yanked:
-    """The version that is taken where nothing else is asked for, of those that begin with a text and whether it is
-    yanked: such a one only where there is nothing else."""
+    """The one that is taken where nothing else is asked for: a yanked one only where there is nothing else."""
     return max([it for it in versions if not it[1]] or versions, key=lambda it: rank(it[0]))
 
 
 def pieces(text: bytes) -> Iterator[bytes]:
-    """A journal's text in parts of whole lines. What is found in one takes the memory of what was found in the one
-    before, so a search in each takes a fifth less than one in the whole."""
+    """Parts of whole lines: a search in each takes a fifth less time than one in the whole, since memory is reused."""
     at = 0
     while at < len(text):
         end = text.find(b"\n", at + PIECE) + 1 or len(text)
@@ -89,8 +85,7 @@ def commands_in(text: bytes) -> list[bytes]:
 
 
 def listed_in(text: bytes) -> dict[str, list[Listed]]:
-    """By package the versions that commands of a journal publish, in order of publication, as pairs of a text and
-    whether it is yanked."""
+    """By package its versions in order of publication, each with whether it is yanked."""
     listed: dict[str, list[Listed]] = {}
     yanked: dict[tuple[str, Precedence], bool] = {}
     for piece in pieces(text):
@@ -139,7 +134,6 @@ class Catalog:
         return sorted(self.published(name), key=lambda it: precedence(it.text), reverse=True)
 
     def versions(self, name: str) -> list[Version]:
-        """The versions of a package, the newest first."""
         if name not in self.lines:
             from .refusals import unpublished
             raise Refused(unpublished(name, self.lines))
@@ -170,19 +164,16 @@ class Catalog:
                 yield other, version.decode(), requirement.decode()
 
     def commands(self, name: str) -> Iterator[Request]:
-        """The commands of a package."""
         return map(json.loads, self.lines.get(name, b"").splitlines())
 
     @cached_property
     def mentioned(self) -> list[str]:
-        """The names of all packages, also of those that are only needed, in the order in which they are first
-        mentioned."""
+        """All names, also of what is only needed, in the order in which they are first mentioned."""
         # what was learnt names no others
         return [it.decode(errors="replace") for it in dict.fromkeys(re.findall(MENTION, self.text))]
 
     @cached_property
     def listed(self) -> dict[str, list[Listed]]:
-        """By package its versions in order of publication, as pairs of a text and whether it is yanked."""
         return listed_in(self.text)
 
 

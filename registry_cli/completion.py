@@ -69,8 +69,7 @@ UNBOUNDED = 10 ** 9  # words that an option takes
 
 
 def complete(words: Sequence[str]) -> list[str]:
-    """The lines that are answered for words of which the last one is being typed: `file`, `folder` or `words`, then
-    words."""
+    """`file`, `folder`, or `words` and some of these, for words of which the last one is being typed."""
     is_program = words[:1] == ["registryd"]
     *before, current = words[is_program:] or [""]
     before = [it for it in before if it != "="]  # bash takes the sign of --option=VALUE for a word
@@ -81,7 +80,6 @@ def complete(words: Sequence[str]) -> list[str]:
 
 
 def of_program(before: list[str], current: str) -> tuple[str, Sequence[str]]:
-    """What may stand behind some words of the program, and those words that are known."""
     of = next((it for it in before if it in PROGRAM), None)
     if of is None:
         return "words", [*PROGRAM, *GENERAL]
@@ -118,8 +116,7 @@ def flags(words: Iterable[Word]) -> list[str]:
 
 
 def awaited(subcommand: Subcommand, rest: Sequence[str]) -> tuple[Takes | None, str | None]:
-    """What the word or option of a subcommand takes whose value comes next, nothing where no more is taken; and the
-    word before it."""
+    """What the word or option takes whose value comes next, nothing where no more is taken; and the word before it."""
     options = {it.flag: it for it in (*subcommand.words, *COMMON) if it.flag}
     places, taken, left = [it for it in subcommand.words if not it.flag], 0, 0
     open_option: Word | None = None
@@ -141,7 +138,6 @@ def awaited(subcommand: Subcommand, rest: Sequence[str]) -> tuple[Takes | None, 
 
 
 def of_kind(takes: Takes, before: Sequence[str], last: str | None) -> tuple[str, Sequence[str]]:
-    """What is offered for a kind of value."""
     if isinstance(takes, tuple):
         return "words", takes
     if takes in (FILE, FOLDER):
@@ -152,8 +148,7 @@ def of_kind(takes: Takes, before: Sequence[str], last: str | None) -> tuple[str,
 
 
 def published(before: Sequence[str], name: str | None) -> list[str]:
-    """The names of the packages, or the versions of one; nothing where no journal can be read and no service
-    answers."""
+    """The packages, or the versions of one; nothing where no journal can be read and no service answers."""
     from types import SimpleNamespace
 
     from .refusals import listed

@@ -55,7 +55,6 @@ def connect(address: str) -> socket.socket:
 
 
 def page_of_service(address: str, target: str) -> bytes:
-    """What a service answers over HTTP."""
     with connect(address) as connection:
         connection.sendall(f"GET {target} HTTP/1.0\r\n\r\n".encode())
         with connection.makefile("rb") as answer:
@@ -86,7 +85,6 @@ class Connected:
         self.replies = self.connection.makefile("rb")
 
     def ask(self, *requests: Request) -> list[Reply]:
-        """The replies to requests, together."""
         with asking(self, requests):
             return list(self.each(requests))
 
@@ -97,7 +95,6 @@ class Connected:
             self.connection.shutdown(socket.SHUT_RDWR)
 
     def each(self, requests: Sequence[Request]) -> Iterator[Reply]:
-        """The replies to requests, each as it comes."""
         waiting, limit = deque(requests), time.monotonic() + PATIENCE
         done: dict[bytes, int] = {}
         while waiting:
@@ -139,8 +136,7 @@ class Connected:
             connection.sendall(text)
 
     def again(self, limit: float) -> dict[bytes, int]:
-        """Connects again. Answers the commands that were accepted since the last reply, each with its revision: one
-        that waits for its reply and is among them was carried out."""
+        """Connects again. Answers what was accepted since the last reply, by its line: so that was carried out."""
         while True:
             self.leave()
             time.sleep(PAUSE)
@@ -159,7 +155,6 @@ class Connected:
         return self.text
 
     def commands(self) -> list[Request]:
-        """The accepted commands, in order, at the same revision."""
         return [json.loads(it) for it in commands_in(self.journal())]
 
     def close(self) -> None:

@@ -43,7 +43,6 @@ class Versions:
         self.admitted: dict[tuple[str, str], frozenset[int]] = {}
 
     def order(self, name: str) -> list[int]:
-        """The ordinals of the published versions, by precedence."""
         if name not in self.orders:
             held = self.registry.releases.get(name, [])
             self.orders[name] = sorted(range(len(held)), key=lambda ordinal: held[ordinal].version)
@@ -58,8 +57,7 @@ class Versions:
         return self.registry.releases[name][ordinal].text
 
     def spans(self, name: str, ordinals: Collection[int]) -> list[list[str]]:
-        """The runs of neighbours in a set, the lowest first, each by its bounds: one version, or from one to below
-        another."""
+        """Runs of neighbours in a set, the lowest first: each one version, or from one to below another."""
         found: list[list[str]] = []
         first, order = None, self.order(name)
         for place, ordinal in enumerate([*order, None]):
@@ -94,14 +92,12 @@ class Versions:
 
 
 class Fact:
-    """A cause that follows from nothing else. Of two that are told together the one of the lower rank comes first.
-    `held` is a package where it says which version of that the selection has."""
+    """What follows from nothing else; the lower rank is told first. It says what is selected of a package `held`."""
     rank = 2
     held: str | None = None
 
     def __init__(self, said: str, lacking: tuple[str, str] | None = None, names: tuple[str, ...] = ()) -> None:
-        """`lacking` is a package and a requirement where it says that nothing published meets it. `names` are the
-        packages it is of."""
+        """`lacking` is a package and a requirement that nothing meets; `names` are the packages it is of."""
         self.said, self.lacking, self.names = said, lacking, names
         self.admitted: dict[str, Told] = {}
 
@@ -112,8 +108,7 @@ class Question(Fact):
 
 
 class Dependency(Fact):
-    """Versions of a package, or the request, depend on a package; `within` has the versions that they leave to choose
-    from."""
+    """Versions of a package, or the request, depend on a package; `within` are the versions that they leave of it."""
     rank, verb = 0, "depends on"
 
     def __init__(self, subject: str, whose: Whose, target: str, requirement: str,
@@ -127,15 +122,13 @@ class Dependency(Fact):
         self.unmet = Fact(f"no version of {target} matches {quoted}", (target, requirement), (target,))
 
     def leads_to(self, other: Dependency, steps: Iterable[Step]) -> bool:
-        """Whether all versions that are left here have the other dependency, and what further versions have it is not
-        asked."""
+        """Whether all versions that are left here have the other dependency, and no step asks which further ones do."""
         if other.whose[0] != self.target or not self.within <= other.whose[1]:
             return False
         return self.within == other.whose[1] or all(self.target not in step.terms for step in steps)
 
 
 class Held(Dependency):
-    """The selection has this version."""
     rank, verb = 1, "has"
 
     def __init__(self, target: str, text: str, requirement: str, within: frozenset[int]) -> None:
@@ -183,7 +176,6 @@ class Step:
                                           if terms.get(name) == (False, told[0])}
 
     def below(self) -> list[Step]:
-        """The causes that are steps."""
         return [it for it in self.causes if isinstance(it, Step)]
 
     def facts(self) -> list[Fact]:
@@ -195,9 +187,8 @@ class Derivation:
 
     def __init__(self, registry: Registry, request: Request, rows: Sequence[Row], asked: tuple[str, str] | None = None,
                  names: Iterable[str] = (), held: Mapping[str, str] | None = None) -> None:
-        """A need on the package `asked`, of a name and a version, is the question itself and no need of the request;
-        one on a package that is `held`, in a version, says what the selection has. `names` are the published packages,
-        where the registry has not all of them."""
+        """`asked`, a name and a version, is the question itself and no need; `held` is what the selection has, and
+        `names` are the published packages, where the registry has not all of them."""
         usual: Request = {"lock": [], "explain": True, "budget": 0}
         self.request = usual | request
         self.held = held or {}
@@ -218,8 +209,7 @@ class Derivation:
         self.last = self.steps[-1]
 
     def needless(self, causes: list[Node]) -> Step | None:
-        """The step that a line repeats, where that says that the request can't be met and the line only adds that it
-        must be."""
+        """The step that a line repeats, where the line only adds that the request must be met."""
         for root, other in (causes, causes[::-1]):
             if root is self.facts.get("root") and isinstance(other, Step) and other.terms == NEVER:
                 return other
@@ -279,8 +269,7 @@ class Derivation:
         return self.depended(fact, target, need, left, {name: (True, subject)})
 
     def depended(self, fact: Fact, target: str, requirement: str, within: frozenset[int], terms: Terms) -> Node:
-        """A dependency. Where it leaves no version to choose from, that is told as a fact of its own, and what both
-        mean as a step."""
+        """Where it leaves no version to choose from, that is told as a fact of its own, and both as a step."""
         if not within:
             unpublished = Fact(f"no version of {target} is published", (target, requirement), (target,))
             has_versions = self.registry.releases.get(target)
@@ -303,7 +292,6 @@ class Derivation:
         return Fact(" and ".join(told) or NOTHING.format(name), names=(name,))
 
     def conclusion(self, step: Step) -> str:
-        """What a step says."""
         terms = {name: term for name, term in step.terms.items() if name != ROOT}
         inside = [(name, ordinals) for name, (is_in, ordinals) in terms.items() if is_in]
         # a term that is true of no choice makes a line that says nothing
@@ -323,6 +311,5 @@ class Derivation:
                 f"{listed(named, 'and')} are incompatible"][min(len(named), 3) - 1]
 
     def wanted(self, step: Step, name: str, ordinals: frozenset[int]) -> str:
-        """What a step asks for of a package: by the requirement that admits just that, if one did, else by its
-        versions."""
+        """By the requirement that admits just what a step asks for, if one did, else by its versions."""
         return step.admitted[name][1] if name in step.admitted else self.versions.some(name, ordinals)

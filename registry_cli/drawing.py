@@ -37,8 +37,7 @@ HALO = '<text paint-order="stroke" stroke="#ffffff" stroke-width="3"'
 # ---- a derivation
 
 class Box:
-    """A line of a derivation: its texts, and which lines it cites. `hidden` says how many lines it rests on that have
-    no box; its other reasons are left out then."""
+    """`hidden` is how many lines without a box it rests on; its other reasons are left out then."""
 
     def __init__(self, derivation: Derivation, step: Step, failed: str, hidden: int = 0) -> None:
         self.number, self.is_last, self.hidden = step.number, step is derivation.last, hidden
@@ -64,7 +63,6 @@ class Box:
         return self.top + self.high - 7
 
     def drawn(self, x: float, gutter: float, wide: float) -> list[str]:
-        """The box with its texts."""
         colour, y = ALARM if self.is_last else EDGE, self.top + 19
         dashes = ' stroke-dasharray="5 4"' if self.hidden else ""
         outline = f'stroke="{colour}" stroke-width="{2 if self.is_last else 1}"{dashes}'
@@ -158,7 +156,6 @@ def draw_derivation(derivation: Derivation, title: str, failed: str = FAILED, mo
 # ---- a selection
 
 def needs_of(registry: Registry, request: Request, selected: Mapping[str, str]) -> dict[str, dict[str, str]]:
-    """What the request and each selected package need, with the requirement, by package."""
     needs = {ROOT: dict(request["needs"])}
     for name, version in selected.items():
         release = registry.find(name, version)
@@ -187,8 +184,7 @@ def from_above(needs: Needs) -> list[str]:
 
 def stairs(needs: Needs, order: Sequence[str], places: Mapping[str, tuple[float, float]],
            labels: Mapping[str, str]) -> list[str]:
-    """The ways from each package to what it needs: right to the other's column and down, or back beneath the names and
-    up."""
+    """To what each package needs: right to the other's column and down, or back beneath the names and up."""
     pieces: list[str] = []
     at = {name: place for place, name in enumerate(order)}
     for name in order:
@@ -214,7 +210,6 @@ def stairs(needs: Needs, order: Sequence[str], places: Mapping[str, tuple[float,
 
 
 def draw_selection(registry: Registry, request: Request, selected: Mapping[str, str], title: str) -> str:
-    """The picture of a selection: the packages with who needs whom."""
     title = textwrap.shorten(title, MOST_LETTERS, placeholder=" ..")
     needs = needs_of(registry, request, selected)
     order = from_above(needs)

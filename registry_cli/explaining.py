@@ -33,8 +33,7 @@ def room(stream: TextIO) -> tuple[int, int]:
 
 
 def shortened(lines: list[str], most: int, columns: int) -> list[str]:
-    """The first line, and of the others as many of the last ones as there is room for: what a refusal ends with is what
-    it comes to."""
+    """The first line, and as many of the last ones as there is room for: a refusal ends with what it comes to."""
     def rows(line: str) -> int:
         return output.wrapped(output.visible(line), columns).count("\n") + 1
     if sum(map(rows, lines)) <= most:

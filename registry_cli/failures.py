@@ -12,8 +12,7 @@ INTERRUPTED, NO_READER = 130, 141  # as a shell tells of a program that SIGINT o
 
 
 class Failure(Exception):
-    """One line that says what happened and what to do; and further members of what `--json` prints of it, as the
-    program's reply."""
+    """One line that says what happened and what to do; `members` are further ones of what `--json` prints of it."""
     status, kind = FAILED, "failed"
 
     def __init__(self, message: str = "", members: Mapping[str, object] | None = None) -> None:

@@ -12,13 +12,11 @@ MOST_SHOWN = 48
 
 
 def cited(step: Step) -> list[Step]:
-    """The lines that a line rests on."""
     return [it for it in step.below() if it.number]
 
 
 def folded(derivation: Derivation, most: float = MOST_SHOWN) -> dict[Step, int]:
-    """The lines to show, in order, each with how many lines that are not shown it rests on. Some `most` are told with
-    their reasons; of what they rest on besides, the conclusion alone is shown."""
+    """The lines to show, each with how many hidden ones it rests on: `most` have reasons, the others none."""
     lines = [it for it in derivation.steps if it.number]
     if len(lines) <= most:
         return {it: 0 for it in lines}

@@ -25,8 +25,7 @@ class Unread(Failed):
 
 
 class Lock(namedtuple("Lock", "selected needs revision", defaults=[None, None])):
-    """What a lock file has: versions by package and, unless it is a plain list, the needs and the revision that they
-    were selected for."""
+    """Versions by package and, but for a plain list, the needs and the revision that they were selected for."""
     selected: dict[str, str]
     needs: Pairs | None
     revision: int | None
@@ -63,7 +62,6 @@ def faulty(path: str, text: bytes) -> str:
 
 
 def lock_of(path: str) -> Lock:
-    """The lock of a file."""
     if not os.path.lexists(path):
         raise Failed(f"{path}: there is no such lock file: `registry resolve NEED .. --write {path}` makes one")
     return read_lock(read_file(path), path)
@@ -87,8 +85,7 @@ def array(rows: Sequence[Sequence[str]], before: str = "") -> str:
 
 
 def renewed(before: Lock | None, request: Request, reply: Reply) -> Lock:
-    """The lock that takes the place of one, or of none. A plain list stays one, and what is made of the same needs
-    stays as it was."""
+    """A plain list stays one, and what is made of the same needs stays as it was."""
     made = Lock(dict(reply["selected"]), request["needs"], reply["revision"])
     if before is None:
         return made
@@ -98,8 +95,7 @@ def renewed(before: Lock | None, request: Request, reply: Reply) -> Lock:
 
 
 def changes(old: Mapping[str, str], new: Mapping[str, str]) -> list[str]:
-    """A line for each package whose version two locks don't share, by name: what was added or removed, and from what to
-    what."""
+    """A line for each package whose version two locks don't share, by name: added, removed, or from what to what."""
     lines = []
     for name in sorted({*old, *new}):
         if name not in old:
@@ -118,14 +114,12 @@ def changed(old: Mapping[str, str], new: Mapping[str, str]) -> list[dict[str, st
 
 
 def counted(lines: Iterable[str]) -> str:
-    """How many of such lines tell of what."""
     marks = [line[0] for line in lines]
     kinds = (("+", "added"), ("-", "removed"), ("~", "changed"))
     return ", ".join(f"{marks.count(mark)} {kind}" for mark, kind in kinds)
 
 
 def coloured(lines: Iterable[str], out: Output) -> list[str]:
-    """Such lines as a terminal shows them."""
     return [out.style(line, {"+": "green", "-": "red", "~": "yellow"}[line[0]]) for line in lines]
 
 

@@ -19,7 +19,6 @@ FULL = (errno.ENOSPC, errno.EDQUOT, errno.EFBIG, errno.EIO)  # errors of a write
 
 
 def run(words: list[str], out: Output) -> int:
-    """Obeys a command line; answers the exit status."""
     for place, it in enumerate(words, 1):
         if any("\ud800" <= letter <= "\udfff" for letter in it):
             raise Usage(f"word {place} is not UTF-8")
@@ -59,7 +58,6 @@ def general(words: list[str]) -> int:
 
 
 def overview(words: list[str]) -> int:
-    """The help of the whole, which is what was asked for or what was missed."""
     from . import parsing
     wants_help = "--help" in words or "-h" in words
     print(parsing.overview(), end="", file=sys.stdout if wants_help else sys.stderr)
@@ -84,7 +82,6 @@ def guarded(words: list[str]) -> int:
 
 
 def failed(out: Output, fault: Failure) -> int:
-    """Tells why a command line fails; answers the exit status."""
     try:
         out.fail(fault)
     except BrokenPipeError:
@@ -96,8 +93,7 @@ def failed(out: Output, fault: Failure) -> int:
 
 
 def unwritten(fault: OSError) -> str:
-    """An operating system's error in one line. That of a full standard output has no file, and nothing more goes
-    there."""
+    """In one line. The error of a full standard output has no file, and nothing more goes there then."""
     if fault.errno in FULL and not fault.filename:  # whoever writes a file names it
         fault.filename = "standard output"
         write_no_more()
@@ -120,8 +116,7 @@ def command() -> NoReturn:
 
 
 def main(words: list[str]) -> int:
-    """The exit status of a command line. Its reader may have enough before the end, and a key may interrupt it: neither
-    is a fault."""
+    """It is no fault that the reader has enough before the end, or that a key interrupts."""
     open_streams()
     try:
         return guarded(words)
@@ -135,7 +130,6 @@ def main(words: list[str]) -> int:
 
 
 def status_of(ended: SystemExit) -> int:
-    """The exit status of what has ended the command."""
     return ended.code if isinstance(ended.code, int) else DONE if ended.code is None else FAILED
 
 

@@ -39,7 +39,6 @@ def escaped(text: str) -> str:
 
 
 def usage(subcommand: Subcommand) -> str:
-    """The words of a subcommand in short, as roff."""
     pieces = []
     for it in subcommand.words:
         named = " ".join(f"\\fI{escaped(name)}\\fR" for name in it.names) + {"*": " ..", "+": " .."}.get(it.many, "")
@@ -64,7 +63,6 @@ def sentence(text: str) -> str:
 
 
 def page(version: str = "") -> str:
-    """The whole page."""
     lines = [f'.TH REGISTRY 1 "" "{version or "registryd"}"',
              ".SH NAME", "registry \\- a package registry with a version solver",
              ".SH SYNOPSIS",

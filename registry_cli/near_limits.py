@@ -57,7 +57,6 @@ def warn(path: str, text: bytes | None = None) -> None:
 
 
 def tell(warned: Iterable[str]) -> None:
-    """Tells warnings on standard error."""
     from .output import Output
     for it in warned:
         Output.note(it)

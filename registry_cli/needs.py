@@ -30,8 +30,7 @@ def parted(text: str) -> re.Match[str]:
 
 
 def need_of(text: str) -> list[str]:
-    """A package and a requirement of one word: `app@^1`, `app ^1`, or `app` alone for any version. The program judges
-    both."""
+    """`app@^1`, `app ^1`, or `app` alone for any version. The program judges both parts."""
     name, requirement = parted(text.rstrip()).groups("*")
     return [name, requirement]
 
@@ -47,8 +46,7 @@ def needs_of(words: Sequence[str]) -> Pairs:
 
 
 def slip(word: str, before: str = "") -> str:
-    """What is wrong with a word that has no package before an @, and what was probably meant, also with the word before
-    it; nothing where only its letters may be wrong."""
+    """What is wrong with a word that has no package before an @; nothing where only its letters may be wrong."""
     from registryd_lines.fault import shown
     from registryd_lines.requirements import requirement_fault
     word = word.strip()
@@ -95,8 +93,7 @@ def read_needs(path: str) -> Pairs:
 
 
 def faulty(path: str, number: int, found: re.Match[str]) -> str:
-    """What is wrong with a line of a needs file, and where: its package, its requirement, or that the package stands
-    before it too."""
+    """What is wrong with a line: its package, its requirement, or that the package stands before it too."""
     from registryd_lines.fault import Fault, placed
     from registryd_lines.judging import text_fault
     from registryd_lines.requirements import requirement_fault
@@ -118,8 +115,7 @@ def write_needs(path: str, needs: Pairs) -> bool:
 
 
 def needs_known(typed: Sequence[str] | None, lock: str) -> Pairs | None:
-    """The needs that were typed; where there are none, those of the needs file beside a lock file, else those that the
-    lock file was made for; none where nothing says any."""
+    """The needs that were typed, else those of the needs file, else the lock file's; none where nothing says any."""
     if typed:
         return needs_of(typed)
     path = needs_path(lock)

@@ -25,8 +25,7 @@ NARROWEST = 20  # columns that wrapped text has
 
 
 class Choice(namedtuple("Choice", "color is_quiet is_verbose seconds begun", defaults=["", False, False, 0, 0])):
-    """What the options of a command line say of all that it prints and asks: of `seconds` that a search with its
-    explanation may take, 0 is any time, and `begun` is when the command line was read."""
+    """The options of a command line. A search with its explanation may take `seconds`, since it was read at `begun`."""
     color: str
     is_quiet: bool
     is_verbose: bool
@@ -52,8 +51,7 @@ def keep_choice(kept: Choice) -> Choice:
 
 
 def is_coloured(stream: TextIO | None) -> bool:
-    """Whether colour may go there: as --color says, else only to a terminal that knows it, and not against
-    https://no-color.org."""
+    """As --color says, else only to a terminal that knows it, and not against https://no-color.org."""
     if stream is None or chosen.color in ("always", "never"):
         return stream is not None and chosen.color == "always"
     return stream.isatty() and not os.environ.get("NO_COLOR") and os.environ.get("TERM") != "dumb"
@@ -108,7 +106,6 @@ def write(stream: TextIO, lines: Iterable[str]) -> None:
 
 
 def say(*lines: str) -> None:
-    """Lines on standard error."""
     write(sys.stderr, lines)
 
 
@@ -146,12 +143,10 @@ class Output:
             write(sys.stdout, lines)
 
     def style(self, text: str, *styles: str) -> str:
-        """A text for standard output in some of the STYLES."""
         return text if self.is_json else style(text, sys.stdout, *styles)
 
     def fail(self, fault: Failure) -> None:
-        """Why there is no answer, or no more than was given: on standard error and, in place of an answer in JSON, on
-        standard output."""
+        """On standard error and, in place of an answer in JSON, on standard output."""
         sys.stdout.flush()
         fail(str(fault))
         if self.is_json and not self.has_answered:

@@ -40,7 +40,6 @@ def filled(mentioned: Iterable[str], commands: Iterable[Request], revision: int)
 
 
 def named(request: Request, rows: Iterable[Row]) -> set[str]:
-    """The packages that a request and a derivation name."""
     causes = [cause for row in rows for cause in row["causes"]]
     of_causes = {name for cause in causes for name in (cause.get("name"), cause.get("target")) if name is not None}
     return {*dict(request["needs"]), *dict(request.get("lock", [])), *of_causes}

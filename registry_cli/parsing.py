@@ -60,7 +60,6 @@ def layout() -> partial[argparse.RawDescriptionHelpFormatter]:
 
 
 def reader(subcommand: Subcommand) -> Parser:
-    """The parser of a subcommand's words."""
     about = "\n\n".join(textwrap.fill(it, WIDE) for it in (subcommand.summary + ".", subcommand.more) if it)
     parser = Parser(prog=f"registry {subcommand.name}", description=about, epilog=shown(subcommand.examples),
                     formatter_class=layout(), allow_abbrev=False)
@@ -74,7 +73,6 @@ def shown(examples: Sequence[str]) -> str:
 
 
 def add(parser: Parser, word: Word) -> None:
-    """One word or option."""
     settings: dict[str, Any] = {"help": word.about.replace("%", "%%")}  # of which each has a type of its own
     if word.flag:
         settings["dest"] = word.member
@@ -103,7 +101,6 @@ def number_in(numbers: range) -> Callable[[str], int]:
 
 
 def overview() -> str:
-    """The help of the whole."""
     wide = max(len(it.name) for it in SUBCOMMANDS)
     parser = Parser(prog="registry", usage="registry SUBCOMMAND ..", add_help=False, formatter_class=layout(),
                     description="A package registry with a version solver, over one file.\n\nsubcommands:\n"

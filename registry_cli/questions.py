@@ -44,13 +44,11 @@ class Question:
         self.request = request | changed
 
     def is_plain(self) -> bool:
-        """Whether a request alone can ask it."""
         return not self.barring and len(self.request["needs"]) <= MOST_NEEDS
 
     def put(self, commands: Sequence[Request], request: Request, registry: RegistryOf) -> Reply:
-        """The reply of a session of its own, over what the question reaches of a registry with these commands.
-        `request` is the question's, whose lock and budget may be others. `registry` answers the registry in Python,
-        with some packages."""
+        """Asks a session of its own, over what the question reaches of a registry with these commands. `request` may
+        have another lock and budget, and `registry` answers the registry in Python, with some packages."""
         needs, made = bundled(self.request["needs"], commands)
         lines = [*reached(commands, dict(self.request["needs"])), *made]
         barred = [it for it in releases_of(commands).values() if self.bars(it)]
@@ -97,8 +95,7 @@ def reached(commands: Iterable[Request], names: Collection[str]) -> Iterator[Req
 
 
 def bundled(needs: Pairs, commands: Iterable[Request]) -> tuple[Pairs, list[Request]]:
-    """Needs that a request may have, and the publications of packages that depend on what is needed, where that is
-    more."""
+    """Needs that a request may have, and the publications of packages that depend on what is more than that."""
     published = [it for it in commands if it["op"] == "publish"]
     known = {name for it in published for name in (it["name"], *dict(it["needs"]))}.union(dict(needs))
     begin = MADE
@@ -115,9 +112,8 @@ def bundled(needs: Pairs, commands: Iterable[Request]) -> tuple[Pairs, list[Requ
 
 
 class Retold:
-    """A derivation over a registry with packages that were made, told back without them: the request needs itself what
-    they depend on. `judge` says what a cause is over the registry alone, and holds what was concluded there; `asked`
-    are the packages that were needed."""
+    """A derivation without the packages that were made: the request needs itself what they depend on. `judge` holds
+    what was concluded over the registry alone, and `asked` are the packages that were needed."""
 
     def __init__(self, judge: Holding, asked: Sequence[str], made: set[str]) -> None:
         self.judge, self.asked, self.made = judge, asked, made

@@ -34,13 +34,11 @@ def versions_told(versions: Iterable[Listed]) -> str:
 
 
 def unpublished(name: str, names: Collection[str]) -> str:
-    """What is said of a package that has no publication."""
     near = nearest(name, names) if len(name) >= SHORTEST else None
     return f"no version of {name} is published" + (f"; did you mean {near}?" if near else "")
 
 
 def unmatched(name: str, requirement: str, versions: Iterable[Listed]) -> str:
-    """What is said of a requirement that no published version meets."""
     return f"no version of {name} matches {requirement}; {versions_told(versions)}"
 
 
@@ -52,8 +50,7 @@ def not_there(request: Request, packages: Mapping[str, Sequence[Listed]]) -> str
 
 
 def misspelled(request: Request, number: int) -> str:
-    """What is wrong with the first name, version or requirement that a request is refused for, and what was probably
-    meant."""
+    """The first name, version or requirement that is at fault, and what was probably meant."""
     from registryd_lines.judging import faults
     from registryd_lines.requirements import requirement_fault
     name, version = request.get("name", ""), request.get("version", "")
@@ -75,8 +72,7 @@ def repeated(needs: Pairs, lock: Pairs) -> str:
 
 
 def english(request: Request, reply: Reply, packages: Callable[[], Mapping[str, Sequence[Listed]]]) -> str:
-    """What a refusal says in one line. `packages` answers the packages with their versions, and is asked only where
-    they matter."""
+    """A refusal in one line. `packages` is asked only where those that are published matter."""
     needs, lock = request.get("needs", []), request.get("lock", [])
     subject = f"{request.get('name')} {request.get('version')}"
     sentences: dict[int, Callable[[], str]] = {

@@ -40,7 +40,6 @@ class Release(NamedTuple):
 
 
 def releases_of(commands: Iterable[Request]) -> dict[Key, Release]:
-    """The releases by their keys, in order of publication."""
     found: dict[Key, Release] = {}
     for it in commands:
         key = it["name"], precedence(it["version"])
@@ -102,8 +101,7 @@ class Lock:
 
 
 def roots(held: Mapping[str, Release]) -> list[str]:
-    """Names from which all of these releases are reached along their needs: those that no other one needs, then of each
-    circle one."""
+    """Names that lead to all of these along their needs: those that no other one needs, then one of each circle."""
     needed = {target for it in held.values() for target, _ in it.needs if target != it.name}
     found: list[str] = []
     reached: set[str] = set()

@@ -17,8 +17,7 @@ if TYPE_CHECKING:
 
 
 def request_of(options: Options, lock: Mapping[str, str] | None = None) -> Request:
-    """The resolve line of some words: the needs that are typed or kept, and the lock file that is named, or this
-    lock."""
+    """With the needs that are typed or kept, and the lock file that is named, or this lock."""
     if lock is None:
         lock = lock_of(options.lock).selected if options.lock else {}
     kept = [list(it) for it in sorted(lock.items())]
@@ -63,7 +62,6 @@ def lock_notes(path: str, lock: Mapping[str, str], packages: Mapping[str, Sequen
 
 
 def needs_of(session: Reading, selected: Mapping[str, str]) -> dict[str, Pairs]:
-    """What each selected version needs, as pairs, by package."""
     from .catalog import catalog_of
     catalog = catalog_of(session.journal())
     return {name: catalog.version(name, version).needs for name, version in selected.items()}

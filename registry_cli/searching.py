@@ -55,8 +55,7 @@ class Limit:
 
 
 class Alarm:
-    """Ends by an exception what the main thread does, if that is not done after some seconds; never where these are
-    0."""
+    """Ends what the main thread does by an exception, after some seconds; never where these are 0."""
 
     def __init__(self, seconds: float, why: str) -> None:
         self.seconds, self.why, self.is_set = seconds, why, False
@@ -86,7 +85,6 @@ def counted(seconds: int) -> str:
 
 @contextlib.contextmanager
 def asking(session: Searching, requests: Sequence[Request]) -> Iterator[None]:
-    """Meanwhile a session is asked."""
     begun, is_search = time.monotonic(), all(it.get("op") == "resolve" for it in requests)
     seconds = output.chosen.seconds if is_search else 0
     for it in requests if output.chosen.is_verbose else ():
@@ -100,8 +98,7 @@ def asking(session: Searching, requests: Sequence[Request]) -> Iterator[None]:
 
 @contextlib.contextmanager
 def explaining(is_refused: bool, begun: float | None = None) -> Iterator[None]:
-    """Meanwhile an answer is explained. It may take what is left of the seconds that have begun then, else with the
-    command."""
+    """It may take what is left of the seconds that have begun then, else with the command."""
     seconds = output.chosen.seconds
     left = seconds and max(LEAST, seconds - (time.monotonic() - (begun or output.chosen.begun)))
     told = "there is no selection; to say why takes" if is_refused else "to explain that takes"

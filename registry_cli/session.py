@@ -57,14 +57,12 @@ standing: shell.Standing | None = None  # what a shell keeps open: see shell.py
 
 
 def journal_of(options: Options) -> str:
-    """The path of the journal that the words name, else that of the shell, else the environment, else the one in this
-    folder."""
+    """What the words name, else the shell, else the environment, else the one in this folder."""
     return options.journal or (standing and standing.path) or os.environ.get(VARIABLE) or DEFAULT
 
 
 def service_of(options: Options) -> str | None:
-    """The address of the service that the words name, else, where they name no journal, that of the shell or the
-    environment."""
+    """What the words name, else, where they name no journal, the shell or the environment."""
     if options.connect and options.journal:
         raise Usage("--connect can't be used with --journal: a service has its own journal")
     if options.connect or options.journal:
@@ -79,8 +77,7 @@ def patience_of(options: Options) -> float:
 
 
 def reading(options: Options) -> shapes.Reading:
-    """A session that reads. It answers `ask`, `each`, `journal`, `commands` and `close`, and one over a service answers
-    the same."""
+    """A session that reads; one over a service answers the same."""
     service, path = service_of(options), journal_of(options)
     if service:
         return connected(service)
@@ -116,8 +113,7 @@ def read_steady(path: str) -> tuple[bytes, bool]:
 
 
 def snapshot(path: str) -> bytes:
-    """The text of a journal as it stands, up to its last whole line, with an end. While a session writes it there is
-    none."""
+    """A journal up to its last whole line, with an end: while a session writes it there is none."""
     try:
         text, is_ended = read_steady(path)
     except FileNotFoundError:
@@ -171,8 +167,7 @@ class Session:
         self.hearing.start()
 
     def hear(self) -> None:
-        """Keeps why the program ends, and passes on what else is said on standard error, as how far it is where it is
-        built first."""
+        """Keeps why the program ends, and passes on what else it says, as how far it is where it is built first."""
         for line in self.process.stderr:
             text = line.decode(errors="replace")
             if reason(text, self.path):
@@ -182,7 +177,6 @@ class Session:
                 sys.stderr.flush()
 
     def each(self, requests: Sequence[Request]) -> Iterator[Reply]:
-        """The replies to requests, each as it comes."""
         import json
         text = b"".join(json.dumps(it, separators=(",", ":")).encode() + b"\n" for it in requests)
         threading.Thread(target=self.write, args=(text,), daemon=True).start()
@@ -200,7 +194,6 @@ class Session:
             pass  # who waits for a reply is told how the program ended
 
     def ask(self, *requests: Request) -> list[Reply]:
-        """The replies to requests, together."""
         with asking(self, requests):
             return list(self.each(requests))
 
@@ -222,7 +215,6 @@ class Session:
         return kind(reason(self.said, self.path) or how)
 
     def close(self) -> None:
-        """Ends the input and waits for the program."""
         with contextlib.suppress(OSError):
             self.process.stdin.close()
         if self.process.stdout.read() or self.process.wait():
@@ -264,11 +256,9 @@ class Reading(Session):
         self.warnings = list(near_limits.warnings(path, self.text))  # while the program loads it
 
     def journal(self: HasText) -> bytes:
-        """The journal's text."""
         return self.text
 
     def commands(self: HasText) -> list[Request]:
-        """The accepted commands, in order."""
         import json
 
         from .catalog import commands_in
@@ -288,8 +278,7 @@ class Reading(Session):
 
 
 class Writing(Session):
-    """A session that goes on with a journal's file, or begins one. Where another session has that, it waits so many
-    seconds."""
+    """Goes on with a journal's file, or begins one; waits so many seconds where another session has that."""
 
     def __init__(self, path: str, patience: float = SECONDS) -> None:
         from .waiting import Turn

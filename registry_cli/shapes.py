@@ -28,7 +28,6 @@ class Cause(TypedDict, total=False):
 
 
 class Row(TypedDict):
-    """A line of a derivation."""
     causes: list[Cause]
     conclusion: list[list[Any]]  # each a name, whether its version is among some, and the ordinals of these
     pivot: str
@@ -47,7 +46,6 @@ class Request(TypedDict, total=False):
 
 
 class Reply(TypedDict, total=False):
-    """A reply line."""
     ok: bool
     refused: bool
     revision: int
@@ -88,8 +86,7 @@ class Reading(Asking, Protocol):
 # ---- command lines
 
 class Options(Protocol):
-    """The words of a command line when they were read: those of `COMMON`, and of others what one subcommand or more
-    has."""
+    """The words when they were read: those of `COMMON`, and of others what one subcommand or more has."""
     subcommand: str
     journal: str | None
     connect: str | None
@@ -138,7 +135,6 @@ class Named(Options, Protocol):
 
 
 class Served(Options, Protocol):
-    """The words of `serve`."""
     socket: str | None
     mode: str
     group: str | None

@@ -92,8 +92,7 @@ class Shelf:
         return Release(release.version, needs, release.yanked)
 
     def newest(self, name: str, most: int) -> list[Release]:
-        """So many releases of a crate, the highest versions, those that are not yanked first; in order of
-        publication."""
+        """So many of the highest versions, those that are not yanked first; in order of publication."""
         releases = self.crate(name).releases
         if name not in self.ranks:
             ranked = sorted(releases, key=lambda it: (not it.yanked, precedence(it.version)), reverse=True)
@@ -102,8 +101,7 @@ class Shelf:
 
 
 def reach(shelf: Shelf, roots: Sequence[str], most: int) -> dict[str, list[Release]] | None:
-    """The releases by crate that are reached from crates along dependencies, where each crate has so many releases;
-    none where they are more than one session takes."""
+    """The releases that crates lead to, so many of each crate; none where they are more than one session takes."""
     chosen: dict[str, list[Release]] = {}
     named, waiting, commands = set(roots), list(roots), 0
     while waiting and commands <= MOST_COMMANDS and len(named) <= MOST_PACKAGES:
@@ -130,8 +128,7 @@ def choose(shelf: Shelf, roots: Sequence[str], most: int) -> tuple[dict[str, lis
 
 
 def commands_of(chosen: Chosen) -> Iterator[Request]:
-    """A publish line for each release, crate by crate in order of publication, and a yank line behind it where it is
-    yanked."""
+    """Crate by crate in order of publication, with a yank line right behind what is yanked."""
     for name, releases in chosen.items():
         for release in releases:
             needs = [list(it) for it in release.needs]
@@ -141,15 +138,13 @@ def commands_of(chosen: Chosen) -> Iterator[Request]:
 
 
 def other_spellings(chosen: Chosen, published: Collection[str]) -> list[tuple[str, str]]:
-    """The names that are taken or needed and of which a package is published that differs in `-` and `_` alone; each
-    with that."""
+    """The names of which a package is published that differs in `-` and `_` alone; each with that."""
     spelled = {folded(it): it for it in published}
     names = {*chosen, *(target for releases in chosen.values() for it in releases for target, _ in it.needs)}
     return sorted((it, spelled[folded(it)]) for it in names if it not in published and folded(it) in spelled)
 
 
 def counted(chosen: Chosen) -> str:
-    """How much is taken, in words."""
     releases = [it for held in chosen.values() for it in held]
     return f"{len(releases)} versions of {len(chosen)} crates, {sum(it.yanked for it in releases)} of them yanked"
 

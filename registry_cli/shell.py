@@ -127,8 +127,7 @@ def typed() -> int:
 
 @contextlib.contextmanager
 def ticking() -> Iterator[None]:
-    """Wakes the wait for a key now and then: a signal that came just before that wait is heeded then, and not at the
-    next key."""
+    """Wakes the wait for a key now and then: so a signal that came just before it is heeded before the next key."""
     handler = signal.signal(signal.SIGALRM, lambda *_: None)
     signal.setitimer(signal.ITIMER_REAL, TICK, TICK)
     try:
@@ -139,8 +138,7 @@ def ticking() -> Iterator[None]:
 
 
 def words_of(line: str) -> list[str] | None:
-    """The words of a line, as a shell splits them; none where a quote does not end. The name of the command may stand
-    before them."""
+    """None where a quote does not end. The name of the command may stand before them."""
     try:
         words = shlex.split(line, comments=True)
     except ValueError:
@@ -150,7 +148,6 @@ def words_of(line: str) -> list[str] | None:
 
 
 def obey(words: list[str] | None) -> int:
-    """The status of one command line."""
     if words is None:
         return USAGE
     if words[:1] == ["shell"]:

@@ -16,12 +16,8 @@ if TYPE_CHECKING:
 
 
 class Telling:
-    """The sentences that tell a derivation, each with its number or none; an empty one is a break before another
-    branch.
-
-    `places` has where each step is told that has a sentence, and `leading` the steps that are told for its sake right
-    before it.
-    """
+    """The sentences of a derivation, each with its number or none; an empty one is a break before another branch.
+    `places` has where each step is told, and `leading` the steps that are told for its sake right before it."""
 
     def __init__(self, derivation: Derivation, failed: str = FAILED) -> None:
         self.derivation, self.failed = derivation, failed
@@ -36,8 +32,7 @@ class Telling:
         self.tell(derivation.last)
 
     def tell(self, last: Step) -> None:
-        """Tells a step after what it rests on. A step hands over those that are to be told first; this needs no stack
-        of calls."""
+        """A step hands over those that are to be told first: this needs no stack of calls."""
         open_steps = [(last, self.steps_of(last))]
         while open_steps:
             step, rest = open_steps[-1]
@@ -57,7 +52,6 @@ class Telling:
         yield from ()
 
     def of_one(self, step: Step) -> Iterator[Step]:
-        """A step that rests on another and a fact."""
         (other,), (fact,) = step.below(), step.facts()
         if other in self.numbers:
             self.write(step, f"Because {fact.said} and {self.citing(other)}")
@@ -70,7 +64,6 @@ class Telling:
             self.write(step, f"And because {fact.said}")
 
     def of_two(self, step: Step) -> Iterator[Step]:
-        """A step that rests on two others."""
         first, second = sorted(step.below(), key=lambda it: (it in self.numbers, not it.below()))
         if first in self.numbers:
             self.write(step, f"Because {self.citing(first)} and {self.citing(second)}")

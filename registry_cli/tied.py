@@ -42,8 +42,7 @@ def environment() -> dict[str, str]:
 
 
 class Tied(subprocess.Popen):  # type: ignore[type-arg]  # of bytes, or of letters where `how` says text=True
-    """A program that is killed when this process ends, with all of its group where it has a group of its own. Where no
-    environment is given, it has that of `environment`."""
+    """It is killed when this process ends, with its group where it has its own. `env` is by default `environment()`."""
     stdin: IO[Any]  # each of these is there where a pipe was asked for
     stdout: IO[Any]
     stderr: IO[Any]
@@ -95,8 +94,7 @@ def run(words: Sequence[str], *, input: bytes | None = None, timeout: float | No
 
 
 def when_unread(file: HasNumber, do: Callable[[], object]) -> None:
-    """Does this as soon as nobody can read any more what is written to a pipe or a socket. Where the file is something
-    else it is never done."""
+    """Once nobody can read any more what is written to a pipe or a socket; of any other file that is never."""
     with contextlib.suppress(OSError, ValueError):
         watched = select.poll()
         watched.register(file.fileno(), 0)

@@ -28,7 +28,6 @@ class Holder(namedtuple("Holder", "pid words")):
     words: list[str]
 
     def __str__(self) -> str:
-        """Who it is, as far as that is known."""
         from registryd_lines.fault import shown
         name, *others = self.words or [""]
         command = shown(" ".join([os.path.basename(name), *others]))
@@ -79,8 +78,7 @@ def parent(pid: int) -> int:
 
 
 class Turn:
-    """A session's turn to begin its program, for which it waits so many seconds, and as long again for each other
-    session that has the journal meanwhile."""
+    """Waits so many seconds, and as long again for each other session that has the journal meanwhile."""
 
     def __init__(self, path: str, seconds: float) -> None:
         self.path, self.seconds, self.begun = path, seconds, time.monotonic()

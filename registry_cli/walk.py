@@ -13,8 +13,7 @@ if TYPE_CHECKING:
 
 
 def walk(needs: Pairs, selected: Mapping[str, str], registry: Registry) -> list[str]:
-    """The packages of a selection: first the needs, by name, and then what each listed one depends on, as it was
-    published."""
+    """First the needs, by name, and then what each listed package depends on, as it was published."""
     listed = dict.fromkeys(sorted(dict(needs)))
     waiting = list(listed)
     for name in waiting:  # which grows

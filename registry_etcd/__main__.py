@@ -102,7 +102,6 @@ def reader_of_words() -> Words:
 
 
 def read_words() -> argparse.Namespace:
-    """What is asked, with the members' endpoints."""
     reader = reader_of_words()
     asked = reader.parse_args()
     if asked.journal and (asked.load or asked.what != "found"):
@@ -170,7 +169,6 @@ def main() -> int:
 
 
 def failed(why: str) -> int:
-    """Tells it in one line, where there is someone to tell."""
     with contextlib.suppress(OSError, AttributeError):
         sys.stderr.write(f"registryd-etcd: {visible(' '.join(why.split()))}\n")
         sys.stderr.flush()

@@ -28,8 +28,7 @@ class Behind(Exception):
 
 
 class Entry(NamedTuple):
-    """A command, as the journal's file writes it, with who put it there; the command is none where nobody can read
-    it."""
+    """A command as the journal's file writes it, none where nobody can read it, and who put it there."""
     command: bytes | None
     seat: int
     writer: str
@@ -72,8 +71,6 @@ def read_entry(data: bytes) -> Entry:
 
 
 class Cells:
-    """The cells under one prefix."""
-
     def __init__(self, gateway: Gateway, prefix: str) -> None:
         self.gateway, self.prefix = gateway, prefix
 
@@ -125,8 +122,7 @@ class Cells:
         return found
 
     def pages(self, last: Cell) -> Iterator[list[Cell]]:
-        """The cells behind one, page by page: all that etcd held when this call began, since its reads are
-        linearizable."""
+        """All that etcd held when this call began, since its reads are linearizable."""
         more = True
         while more:
             told = self.gateway.insist("/v3/kv/range", self.page(last))
@@ -136,8 +132,7 @@ class Cells:
 
     @understood()
     def put(self, last: Cell, entries: Sequence[Entry]) -> list[Cell]:
-        """Tries to put entries into the cells behind one. Answers the cells that stand there now, as far as it was
-        told: the own ones, those of others, or none, and then it is open what became of it."""
+        """Tries it. Answers what stands there: own cells, others', or none, and then it is open what became of it."""
         writes = [{"request_put": {"key": self.key(place), "value": encoded(entry_bytes(entry))}}
                   for place, entry in enumerate(entries, last.place + 1)]
         created: Message = {"target": "CREATE", "create_revision": 0}

@@ -28,8 +28,7 @@ class Line:
 
 
 def read_line(text: bytes) -> tuple[str | None, bytes | None]:
-    """What a line asks, as far as a front has to know: the word of its `op`, and its line in a journal where it is a
-    command."""
+    """The word of its `op`, and its line in a journal where it is a command: all that a front has to know."""
     if text.startswith(REQUESTS) and text.count(b'"op"') == 1 and b"\\" not in text:
         # no second member can be the `op`, whatever follows: if this is a line at all, then a request
         return "resolve", None

@@ -67,7 +67,6 @@ class Child(asyncio.Protocol):
                 self.waiting.popleft()(line)
 
     def connection_lost(self, _: Exception | None) -> None:
-        """Its output has ended, and so does it."""
         assert self.input and self.process.stderr
         if not self.input.is_closing():
             self.input.abort()

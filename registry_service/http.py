@@ -94,8 +94,7 @@ async def head_of(reader: asyncio.StreamReader) -> bytes:
 
 
 async def guest_head(service: Service, reader: asyncio.StreamReader, place: asyncio.BaseTransport) -> bytes:
-    """The same of a connection for which there is no room; nothing where there are too many of these, or it takes too
-    long."""
+    """The same where there is no room; nothing where there are too many of these, or it takes too long."""
     if len(service.guests) < MOST_GUESTS:
         service.guests.add(place)
         with contextlib.suppress(TimeoutError):
@@ -175,7 +174,6 @@ def build() -> str:
 
 
 def free_bytes(path: str) -> int:
-    """How many bytes may still be written beside a journal."""
     try:
         found = os.statvfs(os.path.dirname(os.path.realpath(path)))
     except OSError:
@@ -184,7 +182,6 @@ def free_bytes(path: str) -> int:
 
 
 def memory(service: Service) -> dict[str, int]:
-    """The resident memory of the service and of its programs, as far as they run."""
     programs = [("service", os.getpid())]
     programs += [(each.role, each.child.process.pid) for each in (service.keeper, *service.readers.readers)
                  if each.child]

@@ -9,8 +9,7 @@ from registry_cli.session import snapshot
 
 
 def commands_after(path: str, revision: int, accepted: hashlib._Hash) -> list[bytes]:
-    """The commands that were accepted after a revision; a line of these is a request line, too. Those up to there were
-    accepted, and have this hash together: another program may have put others in their place."""
+    """Those behind a revision; the hash of those before it tells where another program has put others there."""
     commands = commands_in(snapshot(path))
     if len(commands) >= revision and hashlib.sha256(b"".join(commands[:revision])).digest() != accepted.digest():
         raise Failed(f"{path} was changed by another program: it has other commands than the {revision} "

@@ -62,8 +62,7 @@ class Keeper(Supervisor[Child]):
         asked.answer(reply)
 
     def lost(self) -> None:
-        """Nothing is known of what was under way, and so that is told, unless it is certain that no command of it is
-        accepted."""
+        """Tells that nothing is known of what was under way, unless it is certain that nothing of it is accepted."""
         is_certain = self.disk.judge(self.program.said)
         while self.asked:
             asked = self.asked.popleft()

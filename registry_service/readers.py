@@ -51,8 +51,7 @@ def give_up(asked: Asked) -> None:
 
 
 class Reader(Supervisor[Child]):
-    """One of them. `asked` has the requests that it is to answer, in order. `seen` is the first of these at the last
-    look."""
+    """`asked` has the requests that it is to answer, in order; `seen` was the first of these at the last look."""
     role = "reader"
 
     def __init__(self, pool: Readers, is_quick: bool) -> None:
@@ -80,7 +79,6 @@ class Reader(Supervisor[Child]):
             self.kill()
 
     def takes(self, asked: Asked) -> bool:
-        """Whether it may be asked this."""
         return not (self.is_quick and asked.client.is_slow)
 
     def ask(self, requests: Sequence[Asked]) -> None:
@@ -146,8 +144,7 @@ class Readers:
         self.look()
 
     def look(self) -> None:
-        """Ends what takes too long. What waits has a little longer than a search: so it may be asked after one that
-        took all of its time."""
+        """What waits has a little longer than a search: so it may be asked after one that took all of its time."""
         self.looking = self.loop.call_later(TICK, self.look)
         for reader in self.readers:
             reader.look()
@@ -185,7 +182,6 @@ class Readers:
             self.waiting.popleft().fail()
 
     def ready(self) -> int:
-        """How many of them can be asked."""
         return sum(reader.is_up for reader in self.readers)
 
     def are_late(self) -> bool:

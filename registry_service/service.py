@@ -63,8 +63,7 @@ class Service:
         self.times, self.readers = Times(self.keeper), Readers(path, self.watch, self.keeper, options)
 
     def takes_in(self, connection: Connection, kind: set[Connection]) -> bool:
-        """Whether a connection that comes has a place among those of its kind: not where as many clients as are allowed
-        are connected."""
+        """Whether a connection has a place: not where as many clients as are allowed are connected."""
         if len(self.clients) + len(self.pages) >= self.options.clients or self.is_stopping:
             return False
         kind.add(connection)
@@ -93,7 +92,6 @@ class Service:
         notify("READY=1")
 
     def sockets(self) -> Iterator[tuple[socket, Callable[[Service], asyncio.BaseProtocol]]]:
-        """The sockets to listen on, each with what is spoken there."""
         if self.options.socket:
             yield bound_file(self.options.socket, int(self.options.mode, 8), self.options.group), Client
             self.left.callback(Path(self.options.socket).unlink, missing_ok=True)
@@ -103,8 +101,7 @@ class Service:
             yield bound_port(self.options.metrics_port), page
 
     async def end(self) -> bool:
-        """Takes no more lines, has those that came answered, and ends the journal, whose program may just be begun
-        again; answers whether that has its end."""
+        """Has what came answered, and ends the journal, whose program may just begin; answers whether that is so."""
         self.is_stopping = True
         notify("STOPPING=1")
         for server in self.servers:

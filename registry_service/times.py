@@ -20,8 +20,6 @@ def now() -> str:
 
 
 class Times:
-    """Those of a keeper, by revision."""
-
     def __init__(self, keeper: Keeper) -> None:
         self.keeper = keeper
         self.known: dict[int, str] = {}

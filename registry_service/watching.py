@@ -76,8 +76,7 @@ def command_of(line: bytes) -> dict[str, str]:
 
 
 def shown(value: str) -> str:
-    """A value as the log has it: what is more than letters and digits stands in quotes, so nobody writes a line of the
-    log."""
+    """What is more than letters and digits stands in quotes, so nobody writes a line of the log."""
     return value if PLAIN.fullmatch(value) else json.dumps(value[:MOST_SHOWN])
 
 
@@ -111,7 +110,6 @@ class Watch:
             print(now(), *(f"{name}={value}" for name, value in values.items()), file=self.file, flush=True)
 
     def named(self, transport: asyncio.BaseTransport) -> tuple[str, int]:
-        """What a connection is called in the log, and its number."""
         return name_of(transport), next(self.connections)
 
     def timed(self, seconds: float, family: str, labels: str = "") -> None:
@@ -119,7 +117,6 @@ class Watch:
         self.taken[family, labels][bisect_left(BUCKETS, seconds)] += 1
 
     def answered(self, asked: Asked, seconds: float) -> None:
-        """A line has its reply."""
         assert asked.reply is not None
         op, error = asked.op or "other", ERROR.match(asked.reply)
         self.timed(seconds, "request_seconds", f'op="{op}"')

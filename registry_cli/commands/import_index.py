@@ -56,7 +56,6 @@ def run(options: Options, out: Output) -> int | None:
 
 
 def opened(options: Options) -> Index:
-    """The reader of the index that is named."""
     if options.subcommand == "import crates-io":
         return CratesIo(options.dir)
     if options.subcommand == "import cargo":
@@ -68,7 +67,6 @@ def opened(options: Options) -> Index:
 
 def published(options: Options, commands: Sequence[Request], chosen: Chosen, notes: Sequence[str],
               out: Output) -> int | None:
-    """Sends the commands, and says what became of them."""
     reply: Reply = {"revision": 0}
     refused: dict[str, list[str]] = {}
     accepted, there, bar = 0, 0, Bar("importing", len(commands))
@@ -98,8 +96,7 @@ def published(options: Options, commands: Sequence[Request], chosen: Chosen, not
 
 
 def refuse_spellings(pairs: Sequence[tuple[str, str]]) -> None:
-    """Ends an import of names that the journal has in another spelling: what is needed would be found under one of the
-    two alone."""
+    """Ends an import of names that the journal spells otherwise: what is needed would be found under one alone."""
     if pairs:
         name, there = pairs[0]
         count = f"{len(pairs)} name{'s differ' if len(pairs) > 1 else ' differs'}"
@@ -109,7 +106,6 @@ def refuse_spellings(pairs: Sequence[tuple[str, str]]) -> None:
 
 
 def keep(path: str, locked: Pairs, needs: Sequence[Dependency], out: Output) -> None:
-    """Writes what Cargo.lock has as a lock file, and beside it the needs that were begun with."""
     write_file(path, lock_text(Lock(dict(locked))))
     write_needs(needs_path(path), [list(it) for it in needs])
     out.note(f"{path} and {needs_path(path)} are written")

@@ -55,7 +55,6 @@ def run(options: Options, out: Output) -> None:
 
 
 def chosen(path: str, old: Journal, releases: Releases, locks: Sequence[Lock], most: int) -> set[Key]:
-    """The keys of the releases that are kept."""
     kept = newest(releases, most)
     bar = Bar("asking what is needed", len(kept))
     with Over(path, journal_text(old.items)) as session:
@@ -76,7 +75,6 @@ def checked(path: str, text: bytes, locks: Sequence[Lock]) -> None:
 
 
 def left_out(releases: Releases, kept: Collection[Key]) -> dict[str, list[str]]:
-    """The versions that are left out, by package."""
     left: dict[str, list[str]] = {}
     for key, it in releases.items():
         if key not in kept:
@@ -103,6 +101,5 @@ def in_words(path: str, old: Journal, commands: Sequence[object], releases: Rele
 
 
 def in_short(left: Sequence[str], count: int) -> str:
-    """The versions of a package that are left out, of many the first and the last."""
     named = ", ".join(left) if len(left) <= 3 else f"{left[0]} to {left[-1]}, {len(left)} of {count} versions"
     return named + (": none is kept" if len(left) == count else "")

@@ -64,7 +64,6 @@ def counted(count: int, what: str) -> str:
 
 
 def described(line: bytes) -> str:
-    """A dropped line in short."""
     try:
         item = json.loads(line)
         if item["op"] == "learn":

@@ -40,7 +40,6 @@ def in_words(path: str, journal: Journal, reason: str | None, out: Output) -> It
 
 
 def counted(journal: Journal) -> str:
-    """What a journal has, in words."""
     if not journal.format:
         return "no items"
     commands = f"{journal.revision:,} command{'' if journal.revision == 1 else 's'}"

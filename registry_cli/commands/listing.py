@@ -16,7 +16,6 @@ if TYPE_CHECKING:
 
 
 class Row(namedtuple("Row", "name newest versions yanked")):
-    """A package in short: its newest version, and how many it has."""
     name: str
     newest: str
     versions: int
@@ -43,8 +42,7 @@ def run(options: Options, out: Output) -> int | None:
 
 
 def packages_of(session: shapes.Reading) -> dict[str, list[Listed]]:
-    """By package its versions. They are read from a journal while the program loads it; what holds one already is asked
-    for them."""
+    """A journal is read while the program loads it; what holds one already is asked for its list."""
     if isinstance(session, Reading):
         from ..catalog import listed_in
         return listed_in(session.text)
@@ -53,7 +51,6 @@ def packages_of(session: shapes.Reading) -> dict[str, list[Listed]]:
 
 
 def row(name: str, versions: Sequence[Listed]) -> Row:
-    """A package in short."""
     from ..catalog import rank
     held = [text for text, is_yanked in versions if not is_yanked]
     newest = max(held or [text for text, _ in versions], key=rank)
@@ -61,7 +58,6 @@ def row(name: str, versions: Sequence[Listed]) -> Row:
 
 
 def lines(rows: Sequence[Row], out: Output) -> Iterator[str]:
-    """The packages one below another."""
     wide = max((len(it.name) for it in rows), default=0)
     newest = max((len(it.newest) for it in rows), default=0)
     for it in rows:

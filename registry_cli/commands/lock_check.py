@@ -54,7 +54,6 @@ def faults(lock: Mapping[str, str], needs: Iterable[Sequence[str]], registry: Re
 
 
 def unmet(who: str, needs: Iterable[Sequence[str]], lock: Mapping[str, str]) -> Iterator[tuple[str, str]]:
-    """Of some needs each that the lock does not meet, with its package."""
     for target, requirement in needs:
         if target not in lock or not admits(requirement, precedence(lock[target])):
             yield target, f"{who} depends on {target} {requirement}; the lock has {lock.get(target, f'no {target}')}"

@@ -35,8 +35,7 @@ class File:
 
 
 class Service:
-    """The journal of a service, which knows the times of what it accepted itself. Where it has answered, it is waited
-    for later on."""
+    """A service knows the times of what it accepted itself. Once it has answered, it is waited for later on."""
 
     def __init__(self, address: str) -> None:
         self.address, self.patience = address, 0

@@ -82,7 +82,6 @@ def is_newer(one: str | None, other: str) -> bool:
 
 
 def state_of(versions: Iterable[Listed], locked: str) -> str:
-    """What is worth knowing of a locked version itself."""
     found = [is_yanked for text, is_yanked in versions if precedence(text) == precedence(locked)]
     return "not published" if not found else "yanked" if found[0] else ""
 
@@ -95,7 +94,6 @@ def newest_of(versions: Iterable[Listed], locked: str) -> str | None:
 
 
 def held_back(case: Case, name: str, newest: str, selected: Mapping[str, str]) -> str:
-    """In one line why the newest version of a package is not selected."""
     needs = dict(case.request["needs"])
     if name in needs and not admits(needs[name], precedence(newest)):
         return f"the request depends on {name} {needs[name]}"
@@ -111,14 +109,12 @@ def held_back(case: Case, name: str, newest: str, selected: Mapping[str, str]) -
 
 
 def short(texts: Sequence[str]) -> list[str]:
-    """The first of some texts, and how many more there are."""
     others = len(texts) - MOST_TOLD
     return [*texts[:MOST_TOLD], *([f"{others} more"] if others > 0 else [])]
 
 
 def facts(derivation: Derivation, name: str) -> list[str]:
-    """What rules a version out: the dependencies on the package first, then its own, what these miss, and those that
-    they meet."""
+    """What rules it out: dependencies on the package first, then its own, what these miss, and those that they meet."""
     every = (fact for step in derivation.reached() for fact in step.facts())
     found = list(dict.fromkeys(it for it in every if isinstance(it, Dependency) or it.lacking))
     own = {it.target for it in found if isinstance(it, Dependency) and it.whose[0] == name}
@@ -132,7 +128,6 @@ def facts(derivation: Derivation, name: str) -> list[str]:
 
 
 def lines(rows: Sequence[Row], out: Output) -> Iterator[str]:
-    """The rows as a table."""
     cells = [[it.name, it.locked + (f" ({it.state})" if it.state else ""), it.allowed or "-", it.newest or "-",
               it.held_back_by or ""] for it in ([HEADS, *rows] if rows else [])]
     wide = [max(map(len, column)) for column in zip(*cells)]

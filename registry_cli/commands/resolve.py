@@ -45,7 +45,6 @@ def run(options: Options, out: Output) -> int | None:
 
 
 def keep_to(path: str, lock: Mapping[str, str], selected: Mapping[str, str]) -> None:
-    """Refuses a selection that is not what the lock file has."""
     lines = changes(lock, selected)
     if lines:
         say(*lines)
@@ -54,7 +53,6 @@ def keep_to(path: str, lock: Mapping[str, str], selected: Mapping[str, str]) -> 
 
 
 def keep(path: str, before: Lock | None, request: Request, reply: Reply, out: Output) -> None:
-    """Writes the lock file, and beside it what it was made for."""
     lock = renewed(before, request, reply)
     write_file(path, lock_text(lock))
     lines = changes(before.selected if before else {}, lock.selected)

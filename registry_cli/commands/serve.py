@@ -26,7 +26,6 @@ def run(options: Served, out: Output) -> int | None:
 
 
 async def serve(path: str, options: Served, out: Output) -> int | None:
-    """The exit status of a service."""
     service = Service(path, options)
     with service.left:
         await service.begin()

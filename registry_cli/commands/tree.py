@@ -53,7 +53,6 @@ def inverted(below: Mapping[str, Sequence[str]]) -> dict[str, list[str]]:
 
 
 def strokes() -> dict[str, str]:
-    """What branches are drawn with: letters that standard output has."""
     try:
         "".join(UTF8.values()).encode(sys.stdout.encoding or "ascii")
     except (UnicodeEncodeError, LookupError):

@@ -55,7 +55,6 @@ def without(path: str, lock: Mapping[str, str], names: Collection[str]) -> dict[
 
 
 def settled(path: str, before: Lock, new: Lock, options: Options, out: Output) -> int | None:
-    """Writes the change where it is wanted, and says whether it is written."""
     if new == before:
         out.note(f"nothing changes in {path}")
         return None

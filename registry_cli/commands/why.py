@@ -61,7 +61,6 @@ def run(options: Options, out: Output) -> None:
 
 
 def check(options: Options) -> None:
-    """Words that don't go together."""
     if options.asked and (options.need or options.lock or options.budget is not None):
         raise Usage("--asked reads requests from a file: it can't be used with needs, --lock or --budget")
     if options.asked and options.connect:
@@ -75,7 +74,6 @@ def check(options: Options) -> None:
 
 
 def of_journal(options: Options) -> Iterator[Case]:
-    """The one case of needs that are asked for now."""
     request = request_of(options)
     with reading(options) as session:
         names = set(catalog_of(session.journal()).lines)
@@ -90,7 +88,6 @@ def of_journal(options: Options) -> Iterator[Case]:
 
 
 def of_files(options: Options, asked: str) -> Iterator[Case]:
-    """The cases of a session's request lines and replies that are asked for, each at its place."""
     lines = lines_of(asked)
     requests, replies = (lines, lines_of(options.told)) if options.told else (lines[::2], lines[1::2])
     counts = f"{len(requests)} request lines and {len(replies)} replies"
@@ -122,7 +119,6 @@ def case_of(number: int, request: Object, reply: Object, registry: Registry, com
 
 
 def asked_anew(commands: Iterable[Request], request: Request) -> Reply:
-    """The reply of a program that has obeyed these commands."""
     with Session("the session", ()) as session:
         return session.ask(*commands, request)[-1]
 

@@ -14,8 +14,7 @@ if TYPE_CHECKING:
 
 
 class CratesIo(Index):
-    """A checkout of crates.io's index, or what Cargo keeps of it in a folder `.cache`, which has the same files with
-    the lines parted by zero bytes. See The Cargo Book, "Index Format"."""
+    """A checkout of the index, or Cargo's `.cache` of it with zero bytes between lines: see The Cargo Book."""
 
     def __init__(self, top: str) -> None:
         super().__init__()

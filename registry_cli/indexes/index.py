@@ -25,8 +25,7 @@ class Unusable(Refused):
 
 
 class Notes:
-    """What was left out, and what is told otherwise than it stood there: of each kind how often, and the first of
-    it."""
+    """What was left out, rewritten or missing: of each kind how often, and the first of it."""
 
     def __init__(self) -> None:
         self.counts: Counter[tuple[str, str]] = Counter()
@@ -50,7 +49,6 @@ class Notes:
             self.add(kind, notes.firsts[kind], times)
 
     def lines(self) -> list[str]:
-        """A line for each kind, those of one heading together."""
         return [f"{heading}: {kind}: {self.counts[heading, kind]} (first: {self.firsts[heading, kind]})"
                 for heading, kind in sorted(self.counts)]
 
@@ -70,8 +68,7 @@ class Crate:
 
 
 def folded(name: str) -> str:
-    """What two names have in common that no index of Cargo's has both: they differ in case, or in `-` and `_`,
-    alone."""
+    """No index of Cargo's has two names that differ in case, or in `-` and `_`, alone."""
     return name.lower().replace("_", "-")
 
 

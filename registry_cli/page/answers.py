@@ -42,15 +42,13 @@ class AtFault(Refused):
 
 
 def status(journal: Journal, _: Query) -> Value:
-    """What is shown, after a look at the file."""
     view = journal.refresh()
     return {"path": journal.path, "revision": view.revision, **view.counts, "fault": journal.fault,
             "warnings": view.warnings, "seconds": journal.seconds}
 
 
 def search(journal: Journal, query: Query) -> Value:
-    """A part of the packages whose names have a text in them, those that begin with it first. What is only needed is
-    among them."""
+    """Names that begin with the text come first. What is only needed is among them."""
     view, text = journal.view, query.get("text", [""])[0].strip().lower()
     found, asked = with_text(view.names, text), query.get("before", ["0"])[0]
     before = int(asked) if re.fullmatch("[0-9]{1,9}", asked) and int(asked) < len(found) else 0
@@ -72,7 +70,6 @@ def in_short(view: View, name: str) -> Value:
 
 
 def package(journal: Journal, query: Query) -> Value:
-    """A package: its versions, the newest first, with what each needs; and who needs it."""
     view, name = journal.view, query.get("name", [""])[0]
     if name not in view.names:
         raise NotThere(unpublished(name, view.names))
@@ -85,7 +82,6 @@ def package(journal: Journal, query: Query) -> Value:
 
 
 def resolve(journal: Journal, query: Query) -> Value:
-    """A selection, or the sentences that tell why there is none."""
     needs = [need_of(it.strip()) for it in query.get("need", []) if it.strip()]
     if not needs:
         raise Refused("name what is needed, as app@^1")
@@ -104,8 +100,7 @@ def resolve(journal: Journal, query: Query) -> Value:
 
 
 def field_of(needs: Pairs, number: int) -> Field | None:
-    """Which need a refusal by number speaks of, the first that it fits, and which part of it; none where it is of none
-    alone."""
+    """The first need that a refusal by number fits, and the part that is at fault; none where it is of none alone."""
     names = [name for name, _ in needs]
     judges: dict[int, tuple[str, Callable[[int], bool]]] = {
         1: ("name", lambda at: not NAME.fullmatch(names[at])),
@@ -116,7 +111,6 @@ def field_of(needs: Pairs, number: int) -> Field | None:
 
 
 def selection(view: View, selected: Mapping[str, str]) -> list[Value]:
-    """The packages of a selection, with what each needs, and what is newer."""
     return [{"name": name, "version": version, "needs": view.version(name, version).needs,
              "newest": newer(view, name, version)} for name, version in selected.items()]
 

@@ -16,7 +16,6 @@ if TYPE_CHECKING:
     from ..shapes import Reply, Request
 
     class Source(Protocol):
-        """What has a journal."""
         path: str
 
         def text(self) -> bytes: ...
@@ -27,8 +26,6 @@ MOST_PAGES = 1_000  # whose last search is known
 
 
 class File:
-    """A journal's file that is shown."""
-
     def __init__(self, path: str) -> None:
         self.path = path
 
@@ -100,8 +97,6 @@ class View(Catalog):
 
 
 class Search:
-    """A search that runs, for one page."""
-
     def __init__(self, page: str, session: Reading) -> None:
         self.page, self.session, self.why = page, session, ""
 
@@ -125,8 +120,7 @@ class Journal:
         self.view = View(source)
 
     def refresh(self) -> View:
-        """Reads the journal again where it has changed; answers what is shown then. What can't be read leaves that as
-        it was."""
+        """Reads the journal again where it has changed. What can't be read leaves what is shown as it was."""
         mark = self.source.mark()
         if mark != self.mark and self.loading.acquire(blocking=False):
             try:
@@ -150,8 +144,7 @@ class Journal:
     # ---- searches
 
     def ask(self, request: Request, page: str = "") -> tuple[View, Reply]:
-        """What is shown, and the reply to a request. A page has one search at a time: its next one ends it. Others wait
-        their turn."""
+        """A page has one search at a time: its next one ends it. Others wait their turn."""
         with self.lock:
             self.count += 1
             number = self.count
@@ -176,7 +169,6 @@ class Journal:
                     view.leave()
 
     def searched(self, view: View, request: Request, page: str) -> Reply:
-        """The reply of the program, which has some seconds for it."""
         search = Search(page, view.program())
         limit = f"{self.seconds:g} second{'s' * (self.seconds != 1)}"
         why = f"no answer was found in {limit}, and the search was ended"

@@ -18,7 +18,6 @@ if TYPE_CHECKING:
 
 
 def refusal(view: View, request: Request, reply: Reply) -> dict[str, object]:
-    """The value for the page."""
     case = Case(request, reply, lambda named: registry_in(view, named), None, set(view.lines))
     derivation = case.derivation(case.title(), request, reply)
     telling = Telling(derivation)

@@ -36,7 +36,6 @@ HEADERS = {"Content-Security-Policy": POLICY, "X-Content-Type-Options": "nosniff
 
 
 def files() -> dict[str, tuple[bytes, str]]:
-    """What the browser may load, by address: each file with its kind."""
     found = {}
     for name in sorted(os.listdir(FILES)):
         kind = KINDS.get(os.path.splitext(name)[1])
@@ -48,7 +47,6 @@ def files() -> dict[str, tuple[bytes, str]]:
 
 
 class Handler(BaseHTTPRequestHandler):
-    """One request."""
     server: Server
     server_version, sys_version, timeout = "registry", "", PATIENCE
     error_message_format, error_content_type = "%(code)d %(message)s\n", "text/plain; charset=utf-8"
@@ -86,7 +84,6 @@ class Handler(BaseHTTPRequestHandler):
         return None
 
     def answered(self, answer: Callable[[Journal, Query], Value], query: str) -> tuple[HTTPStatus, bytes, str]:
-        """The status, the JSON and its kind."""
         try:
             value = answer(self.server.journal, parse_qs(query, max_num_fields=100))
             status = HTTPStatus.OK

@@ -211,7 +211,6 @@ def to(request: Request, reply: Reply | RegistryError) -> Reply | RegistryError:
 
 
 def answer(line: bytes) -> Reply | Refusal:
-    """What a reply line says."""
     said = decoded(str(line, "utf-8"))
     revision = said["revision"]
     if "ok" in said:

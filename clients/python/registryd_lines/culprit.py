@@ -44,7 +44,6 @@ def culprit(number: int, line: bytes) -> Culprit | None:
 
 
 def culprit_of(fault: Fault, line: bytes) -> Culprit:
-    """A fault with the place where it stands."""
     try:
         value = placed_json.read(line.decode())
     except (UnicodeDecodeError, Bad):
@@ -55,8 +54,7 @@ def culprit_of(fault: Fault, line: bytes) -> Culprit:
 
 
 def descended(value: Value, place: int) -> tuple[str, str, Value]:
-    """The member and the item of it that has a place of the line, the package that it is about, and the innermost value
-    there."""
+    """The member at a place of the line with its item, the package that it is about, and the innermost value there."""
     where, package = "", ""
     while isinstance(value.held, (dict, list)):
         parts: Iterable[tuple[str | int, Value]]

@@ -85,7 +85,6 @@ def ordinals(forms: Forms, value: Value, whose: str) -> None:
 
 
 def name(forms: Forms, value: Value, whose: str) -> None:
-    """A package's name."""
     if not isinstance(value.held, str):
         forms.fault(value.start, f"{whose} is a package name, not {KINDS[type(value.held)]}")
         return

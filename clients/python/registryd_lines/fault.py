@@ -16,8 +16,7 @@ Edit = tuple[int, int, str]
 
 
 class Bad(Exception):
-    """Why a text is not what it should be: where in it, in words, and the edit that makes of it what was probably
-    meant."""
+    """Why a text is not what it should be: where in it, in words, and the edit to what was probably meant."""
 
     def __init__(self, place: int, what: str, edit: Edit | None = None) -> None:
         super().__init__(what)
@@ -49,8 +48,7 @@ class Fault(NamedTuple):
 
 
 def placed(file: str, line: int, fault: Fault, style: Callable[[str, str], str] = lambda text, _: text) -> str:
-    """A fault in the way of compilers: the file, the line and the column, the error, what is wrong, and what was
-    probably meant."""
+    """In the way of compilers: the file, the line, the column, the error, what is wrong, and what was meant."""
     where, error = f"{file}:{line}:{fault.place + 1}:", f"error {fault.number} {fault.name}:"
     return f"{style(where, 'bold')} {style(error, 'red')} {fault.told}"
 

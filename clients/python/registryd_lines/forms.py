@@ -47,8 +47,7 @@ class Forms:
 
     def object(self, value: Value, whose: str, required: Mapping[str, Form],
                optional: Mapping[str, Form] | None = None) -> bool:
-        """Whether a value is an object with these members, whose values have their forms; optional ones may be left
-        out."""
+        """Whether a value is an object whose members have these forms; optional ones may be left out."""
         before, known = len(self.faults), {**required, **(optional or {})}
         if not isinstance(value.held, dict):
             self.wrong(value, whose, "an object")
@@ -116,7 +115,6 @@ class Forms:
         self.pairs(value, whose, "a name and a version", '["b","1.0.0"]', None)
 
     def pairs(self, value: Value, whose: str, parts: str, example: str, usual: str | None) -> None:
-        """An array of pairs of texts."""
         form = f"an array of pairs of {parts}, as [{example}]"
         held = value.held
         if isinstance(held, dict):
@@ -154,6 +152,5 @@ def is_pair(value: Value) -> bool:
 
 
 def listed(names: Iterable[str], word: str = "and") -> str:
-    """Names in a row of words."""
     *others, last = map(shown, names)
     return f"{', '.join(others)} {word} {last}" if others else last

@@ -48,7 +48,6 @@ def quoted_otherwise(text: str, at: int) -> Bad:
 
 
 def bare_word(at: int, word: str) -> Bad:
-    """A word without quotes."""
     literal = LITERALS.get(word.lower())
     if literal:
         return Bad(at, f"{word} is no word of JSON", (at, at + len(word), literal))
@@ -97,8 +96,7 @@ def no_colon(text: str, end: int, at: int) -> Bad:
 
 
 def no_comma(text: str, opened: int, end: int, at: int) -> Bad:
-    """What stands behind an item or a member, which ended, of what was opened, where a comma or the closing bracket
-    should."""
+    """What stands behind an item or a member in place of a comma or the closing bracket."""
     bracket = text[opened]
     if at == len(text):
         kind = f"the {KINDS[bracket]} that begins at column {opened + 1}"

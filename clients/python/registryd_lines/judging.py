@@ -21,8 +21,7 @@ LOCK_FILE = {"needs": forms.Forms.needs, "revision": forms.Forms.whole, "selecte
 
 
 def faults(line: bytes) -> list[Fault]:
-    """The faults of a line in bytes, without its line feed: none where the registry would be asked. The first one is
-    the refusal that the program answers."""
+    """None where the registry would be asked. The first one is the refusal that the program answers."""
     return found_in(line, "line", lambda noted, value: value.members if has_form(noted, value) else None)
 
 
@@ -42,8 +41,7 @@ def lock_faults(text: bytes) -> list[Fault]:
 
 
 def found_in(line: bytes, whose: str, members: Callable[[forms.Forms, Value], dict[str, Value] | None]) -> list[Fault]:
-    """The faults of a line or a file: what is no JSON, what has not its form, else those of the texts of its
-    members."""
+    """What is no JSON, what has not its form, else the faults of the texts of its members."""
     if len(line) > MOST_LINE_BYTES:
         return [Fault(19, 0, f"the {whose} has more than {MOST_LINE_BYTES:,} bytes")]
     try:
@@ -83,8 +81,6 @@ def no_utf8(line: bytes, at: int, whose: str) -> Fault:
 
 
 class Judge:
-    """Judges the texts of a line that is of its form."""
-
     def __init__(self, text: str, members: dict[str, Value]) -> None:
         self.text, self.members = text, members
 
@@ -112,7 +108,6 @@ class Judge:
         return found
 
     def texts(self, number: int, fault_of: Callable[[str], Bad | None], values: Iterable[Value]) -> list[Fault]:
-        """The faults of texts by one rule."""
         found = []
         for value in values:
             bad = fault_of(value.text)

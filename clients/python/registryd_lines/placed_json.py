@@ -63,8 +63,7 @@ def read(text: str, whose: str = "line") -> Value:
 
 
 def place_in(text: str, value: Value, index: int) -> int:
-    """Where in a text the letter of a string value stands that has this index; one past the last stands at its closing
-    quote."""
+    """Where a letter of a string value stands by its index; one past the last stands at the closing quote."""
     place = value.start + 1
     for _ in range(index):
         if place >= value.end - 1:

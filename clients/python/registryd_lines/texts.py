@@ -64,8 +64,7 @@ def bad_name(text: str) -> Bad:
 
 
 def name_meant(text: str) -> str | None:
-    """The name that a text would be in small letters without accents, with - for what a name can't have; none of one
-    with a requirement."""
+    """In small letters without accents, with - for what a name can't have; none of one with a requirement."""
     if re.search("[=<>~^!]|.@", text):
         return None
     plain = "".join(letter for letter in unicodedata.normalize("NFKD", text) if not unicodedata.combining(letter))
@@ -140,8 +139,7 @@ LOOSE = re.compile(r"[\s=^~vV]*(\d+)(?!\.[xX])(?:\.(\d+)(?!\.[xX])(?:\.(\d+))?)?
 
 
 def version_meant(text: str) -> str | None:
-    """The version that a text would be with numbers that are missing as 0, and without what stands before or behind
-    it."""
+    """With 0 for numbers that are missing, and without what stands before or behind it."""
     found = LOOSE.fullmatch(text)
     if not found:
         return None
