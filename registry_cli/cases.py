@@ -1,17 +1,18 @@
 """A request with its answer, told in English: what was selected, why nothing was, or why one version was not."""
 from __future__ import annotations
 
+import math
+
 from . import TYPE_CHECKING
 from .check_derivation import PAIRS, Fault, admits, demand, formed, precedence
 from .derivation import FAILED, Derivation, listed
 from .failures import Refused
 from .limits import MOST_LOCK_LINES
 from .locks import changes
-from .packages import named
+from .packages import is_preferred, named, walk
 from .questions import Question
 from .refusals import english, not_there, unmatched, unpublished
 from .telling import Telling
-from .walk import is_preferred, walk
 
 if TYPE_CHECKING:
     from collections.abc import Callable, Collection, Iterator, Mapping
@@ -52,8 +53,8 @@ class Case:
         self.registry, self.ask, self.put, self.names, self.told = registry, ask, put, names, told
         self.reply = reply or self.again()
         self.refuted: Derivation | None = None  # the derivation that was told
-        # once it was told: what draws it, of a derivation at most so many lines unfolded
-        self.draw: Callable[[float], str] | None = None
+        # once it was told: what draws it, a derivation with all of its lines or folded
+        self.draw: Callable[[bool], str] | None = None
 
     @property
     def revision(self) -> int:
@@ -89,7 +90,7 @@ class Case:
         return dict(self.reply["selected"])
 
     def selection(self, title: str, selected: Mapping[str, str]) -> list[str]:
-        def draw(_: float) -> str:
+        def draw(_: bool) -> str:
             from .drawing import draw_selection  # which is loaded only where a picture is wanted
             return draw_selection(self.registry(selected), self.request, selected, title)
 
@@ -114,9 +115,9 @@ class Case:
     def english(self, derivation: Derivation, title: str, failed: str) -> list[str]:
         self.refuted = derivation
 
-        def draw(most: float) -> str:
-            from .drawing import draw_derivation
-            return draw_derivation(derivation, title, failed, most)
+        def draw(is_unfolded: bool) -> str:
+            from .drawing import MOST_SHOWN, draw_derivation
+            return draw_derivation(derivation, title, failed, math.inf if is_unfolded else MOST_SHOWN)
 
         self.draw = draw
         return [title, *("  " + it if it else "" for it in (*Telling(derivation, failed).lines(), *hints(derivation)))]

@@ -2,6 +2,8 @@
 lines of each shell that ask for it."""
 from __future__ import annotations
 
+import os
+
 from . import TYPE_CHECKING
 from .command_line import split
 from .failures import Failure
@@ -12,51 +14,9 @@ if TYPE_CHECKING:
 
     from .table import Subcommand, Takes, Word
 
-# Each asks `registry --complete WORD ..`, of the program's words with `registryd` before them: the first line answered
-# says what may stand there, the others are words.
-SCRIPTS = {
-    "bash": r"""_registry() {
-    local current=${COMP_WORDS[COMP_CWORD]} told program=
-    case $1 in *registryd) program=registryd ;; esac
-    mapfile -t told < <("${1%d}" --complete $program "${COMP_WORDS[@]:1:COMP_CWORD}" 2>/dev/null)
-    case ${told[0]} in
-        file) compopt -o filenames; mapfile -t COMPREPLY < <(compgen -f -- "${current#=}") ;;
-        folder) compopt -o filenames; mapfile -t COMPREPLY < <(compgen -d -- "${current#=}") ;;
-        *) COMPREPLY=("${told[@]:1}") ;;
-    esac
-}
-complete -F _registry registry registryd
-""",
-    "zsh": r"""#compdef registry registryd
-_registry() {
-    local -a told program
-    [[ $words[1] != *registryd ]] || program=(registryd)
-    told=("${(@f)$(${words[1]%d} --complete $program "${(@)words[2,CURRENT]}" 2>/dev/null)}")
-    case $told[1] in
-        file) _files ;;
-        folder) _files -/ ;;
-        *) compadd -- "${(@)told[2,-1]}" ;;
-    esac
-}
-if [ "$funcstack[1]" = _registry ]; then _registry "$@"; else compdef _registry registry registryd; fi
-""",
-    "fish": r"""function __registry_told
-    set -l words (commandline -opc) (commandline -ct)
-    set -l program (string match -r 'registryd$' -- $words[1])
-    set -l told (string replace -r 'd$' '' -- $words[1])
-    set told ($told --complete $program $words[2..-1] 2>/dev/null)
-    switch "$told[1]"
-        case file
-            __fish_complete_path (commandline -ct)
-        case folder
-            __fish_complete_directories (commandline -ct)
-        case '*'
-            printf '%s\n' $told[2..-1]
-    end
-end
-complete -c registry -c registryd -f -a '(__registry_told)'
-""",
-}
+# Each script asks `registry --complete WORD ..`, of the program's words with `registryd` before them: the first line
+# answered says what may stand there, the others are words.
+SHELLS = ("bash", "zsh", "fish")
 # the words of the program: the options of each command with what they take
 PROGRAM: dict[str, dict[str, Takes | None]] = {
     "serve": {"--workers": tuple("1 2 4 8 16 32 64".split()), "--journal": FILE, "--load": FILE, "--save": FILE,
@@ -66,6 +26,13 @@ PROGRAM: dict[str, dict[str, Takes | None]] = {
 }
 GENERAL = ("--help", "--version")
 UNBOUNDED = 10 ** 9  # words that an option takes
+
+
+def script(shell: str) -> str:
+    """The lines of a shell that ask for completions."""
+    path = os.path.join(os.path.dirname(os.path.abspath(__file__)), "completions", f"registry.{shell}")
+    with open(path, encoding="utf-8") as file:
+        return file.read()
 
 
 def complete(words: Sequence[str]) -> list[str]:

@@ -40,10 +40,10 @@ def general(words: list[str]) -> int:
         from .completion import complete
         print(*complete(words[1:]), sep="\n")
     elif words[:1] == ["--completion"]:
-        from .completion import SCRIPTS
-        if words[1:2] == [] or words[1] not in SCRIPTS:
-            raise Usage(f"--completion takes one of {', '.join(SCRIPTS)}")
-        print(SCRIPTS[words[1]], end="")
+        from .completion import SHELLS, script
+        if words[1:2] == [] or words[1] not in SHELLS:
+            raise Usage(f"--completion takes one of {', '.join(SHELLS)}")
+        print(script(words[1]), end="")
     elif words == ["--manual"]:
         from .manual import page
         print(page(), end="")

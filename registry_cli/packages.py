@@ -1,17 +1,18 @@
-"""The registry in Python that refusals are told of, by the rules carried out once more, from a journal's commands."""
+"""The registry in Python that refusals are told of, by the rules carried out once more, from a journal's commands;
+and the walk of a selection."""
 from __future__ import annotations
 
 from itertools import chain
 
 from . import TYPE_CHECKING
-from .check_derivation import Registry, demand
+from .check_derivation import Registry, demand, precedence
 from .failures import Failed
 
 if TYPE_CHECKING:
-    from collections.abc import Iterable, Sequence
+    from collections.abc import Iterable, Mapping, Sequence
 
     from .catalog import Catalog
-    from .shapes import Request, Row
+    from .shapes import Pairs, Request, Row
 
 
 def registry_of(commands: Sequence[Request], names: Iterable[str]) -> Registry:
@@ -43,3 +44,24 @@ def named(request: Request, rows: Iterable[Row]) -> set[str]:
     causes = [cause for row in rows for cause in row["causes"]]
     of_causes = {name for cause in causes for name in (cause.get("name"), cause.get("target")) if name is not None}
     return {*dict(request["needs"]), *dict(request.get("lock", [])), *of_causes}
+
+
+def walk(needs: Pairs, selected: Mapping[str, str], registry: Registry) -> list[str]:
+    """First the needs, by name, and then what each listed package depends on, as it was published."""
+    listed = dict.fromkeys(sorted(dict(needs)))
+    waiting = list(listed)
+    for name in waiting:  # which grows
+        release = registry.find(name, selected[name])
+        if not release:
+            raise ValueError(f"{name} {selected[name]} was selected and is not published")
+        for target in release.needs:
+            if target not in listed:
+                listed[target] = None
+                waiting.append(target)
+    return waiting
+
+
+def is_preferred(one: str, other: str, locked: str | None = None) -> bool:
+    """Whether of two versions of a package the first is preferred: the one that the lock names, else the higher one."""
+    first, second, kept = precedence(one), precedence(other), precedence(locked) if locked else None
+    return first != second and (first == kept or (second != kept and first > second))

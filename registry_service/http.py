@@ -13,7 +13,7 @@ from typing import TYPE_CHECKING
 from registry_cli.failures import Failed
 from registry_cli.program import version
 
-from .copies import Copy
+from .journal import Copy
 from .ops import BLANKS
 
 if TYPE_CHECKING:

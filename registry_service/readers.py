@@ -19,7 +19,7 @@ from registry_cli.session import shared
 
 from .child import ACCEPTED, Child
 from .client import UNAVAILABLE
-from .copies import text_at
+from .journal import text_at
 from .supervisor import Supervisor
 
 if TYPE_CHECKING:

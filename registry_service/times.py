@@ -7,7 +7,7 @@ from datetime import datetime, timezone
 from registry_cli import TYPE_CHECKING
 from registry_cli.catalog import commands_in
 
-from .copies import text_at
+from .journal import text_at
 
 if TYPE_CHECKING:
     from .keeper import Keeper

@@ -7,10 +7,9 @@ from ..check_derivation import admits, precedence
 from ..failures import REFUSED
 from ..locks import lock_of
 from ..needs import needs_known
-from ..packages import registry_in
+from ..packages import registry_in, walk
 from ..refusals import accepted, listed, not_there
 from ..session import reading
-from ..walk import walk
 
 if TYPE_CHECKING:
     from collections.abc import Iterable, Iterator, Mapping, Sequence

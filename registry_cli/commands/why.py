@@ -2,7 +2,6 @@
 checked first."""
 from __future__ import annotations
 
-import math
 import sys
 import time
 from typing import TYPE_CHECKING, cast
@@ -14,7 +13,6 @@ from ..check_derivation import session as replayed
 from ..explaining import tell
 from ..failures import Failed, Refused, Usage
 from ..files import write_file
-from ..folding import MOST_SHOWN
 from ..packages import registry_in
 from ..requests import request_of
 from ..searching import explaining
@@ -37,7 +35,7 @@ if TYPE_CHECKING:
 def run(options: Options, out: Output) -> None:
     """Tells what is asked, and draws it; of several requests the last one."""
     check(options)
-    picture: Callable[[float], str] | None = None
+    picture: Callable[[bool], str] | None = None
     answers: list[dict[str, object]] = []
     begun: float | None = None
     try:
@@ -55,7 +53,7 @@ def run(options: Options, out: Output) -> None:
         if options.picture:
             if picture is None:
                 raise Refused("there is nothing to draw")
-            write_file(options.picture, picture(math.inf if options.unfolded else MOST_SHOWN))
+            write_file(options.picture, picture(options.unfolded))
     except ValueError as fault:  # what the checker of derivations says of files that can't be judged
         raise Refused(str(fault)) from None
 
