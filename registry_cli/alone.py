@@ -8,9 +8,7 @@ from . import TYPE_CHECKING
 from .bar import Bar
 
 if TYPE_CHECKING:
-    from collections.abc import Iterable, Iterator, Sequence
-
-    from .shapes import Asking, Cause, Reply, Request
+    from .shapes import Asking, Cause, Iterable, Iterator, Reply, Request, Sequence
 
 MOST_ASKED = 2_000  # of more packages some are asked, at even distances
 BUDGET = 100  # conflicts of each request

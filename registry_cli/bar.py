@@ -10,7 +10,7 @@ import time
 from . import TYPE_CHECKING, output
 
 if TYPE_CHECKING:
-    from collections.abc import Iterator
+    from .shapes import Iterator
 
 WIDE, ERASE = 30, "\r\x1b[K"
 TICK = 1  # seconds

@@ -15,9 +15,7 @@ from .refusals import english, not_there, unmatched, unpublished
 from .telling import Telling
 
 if TYPE_CHECKING:
-    from collections.abc import Callable, Collection, Iterator, Mapping
-
-    from .shapes import Object, Pairs, RegistryOf, Reply, Request
+    from .shapes import Callable, Collection, Iterator, Mapping, Object, Pairs, RegistryOf, Reply, Request
 
     Ask = Callable[[Request], Reply]
     Put = Callable[[Question, Request], Reply]

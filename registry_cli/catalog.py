@@ -11,11 +11,8 @@ from . import TYPE_CHECKING
 from .failures import Refused
 
 if TYPE_CHECKING:
-    from collections.abc import Iterator, Sequence
-    from typing import TypeVar
-
     from .check_derivation import Version as Precedence
-    from .shapes import Listed, Pairs, Request
+    from .shapes import Iterator, Listed, Pairs, Request, Sequence, TypeVar
 
     Yanked = TypeVar("Yanked", "Version", Listed)  # what begins with a text and whether it is yanked
 

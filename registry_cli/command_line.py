@@ -8,10 +8,7 @@ from .failures import Usage
 from .table import COMMON, SUBCOMMANDS, subcommand
 
 if TYPE_CHECKING:
-    from collections.abc import Sequence
-
-    from .shapes import Options
-    from .table import Subcommand, Word
+    from .shapes import Options, Sequence, Subcommand, Word
 
 HELP = "`registry --help`"
 GENERAL = ("--help", "-h", "--version", "-V", "--manual", "--completion", "--complete")

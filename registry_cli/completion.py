@@ -10,9 +10,7 @@ from .failures import Failure
 from .table import COMMON, FILE, FOLDER, NEED, PACKAGE, SUBCOMMANDS, VERSION
 
 if TYPE_CHECKING:
-    from collections.abc import Iterable, Sequence
-
-    from .table import Subcommand, Takes, Word
+    from .shapes import Iterable, Sequence, Subcommand, Takes, Word
 
 # Each script asks `registry --complete WORD ..`, of the program's words with `registryd` before them: the first line
 # answered says what may stand there, the others are words.

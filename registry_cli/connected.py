@@ -18,10 +18,7 @@ from .searching import asking
 from .session import EMPTY
 
 if TYPE_CHECKING:
-    from collections.abc import Iterator, Sequence
-    from typing import TypeVar
-
-    from .shapes import Reply, Request
+    from .shapes import Iterator, Reply, Request, Sequence, TypeVar
 
     Self = TypeVar("Self", bound="Connected")
 

@@ -12,11 +12,7 @@ from . import TYPE_CHECKING
 from .check_derivation import NEVER, ROOT, Judge, read_version
 
 if TYPE_CHECKING:
-    from collections.abc import Collection, Iterable, Mapping, Sequence
-    from typing import Union
-
-    from .check_derivation import Registry, Terms
-    from .shapes import Cause, Request, Row
+    from .shapes import Cause, Collection, Iterable, Mapping, Registry, Request, Row, Sequence, Terms, Union
 
     Told = tuple[frozenset[int], str]  # what a requirement admits, with its text
     Node = Union["Fact", "Step"]

@@ -14,11 +14,7 @@ from .check_derivation import ROOT, demand
 from .derivation import FAILED, Fact, Step, joined
 
 if TYPE_CHECKING:
-    from collections.abc import Container, Iterable, Mapping, Sequence
-
-    from .check_derivation import Registry
-    from .derivation import Derivation
-    from .shapes import Request
+    from .shapes import Container, Derivation, Iterable, Mapping, Registry, Request, Sequence
 
     Needs = Mapping[str, dict[str, str]]  # by package, or the request, what it needs with the requirement
 

@@ -6,9 +6,7 @@ import re
 from . import TYPE_CHECKING, output
 
 if TYPE_CHECKING:
-    from typing import TextIO
-
-    from .cases import Case
+    from .shapes import Case, TextIO
 
 SCREENFUL, LEAST = 40, 10  # lines
 # words of the sentences, which may be names of packages too: as such they are not marked

@@ -7,8 +7,7 @@ from . import TYPE_CHECKING
 from .failures import Failed, one_line
 
 if TYPE_CHECKING:
-    from collections.abc import Callable
-    from pathlib import Path
+    from .shapes import Callable, Path
 
 MOST_BYTES = 2 ** 28  # of a file that is imported
 

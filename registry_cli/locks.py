@@ -11,10 +11,7 @@ from .files import read_file
 from .limits import MOST_LINE_BYTES, MOST_NEEDS
 
 if TYPE_CHECKING:
-    from collections.abc import Callable, Iterable, Mapping, Sequence
-
-    from .output import Output
-    from .shapes import Pairs, Reply, Request
+    from .shapes import Callable, Iterable, Mapping, Output, Pairs, Reply, Request, Sequence
 
 DEFAULT = "registry.lock"
 MADE = {"needs": PAIRS, "revision": int, "selected": PAIRS}  # the form of a lock file that says what it was made of

@@ -13,7 +13,7 @@ from .failures import DONE, FAILED, INTERRUPTED, NO_READER, USAGE, Failed, Failu
 from .output import Output, choose, fail
 
 if TYPE_CHECKING:
-    from typing import NoReturn
+    from .shapes import NoReturn
 
 FULL = (errno.ENOSPC, errno.EDQUOT, errno.EFBIG, errno.EIO)  # errors of a write
 

@@ -6,9 +6,7 @@ from .command_line import flags
 from .table import COMMON, SUBCOMMANDS
 
 if TYPE_CHECKING:
-    from collections.abc import Sequence
-
-    from .table import Subcommand, Word
+    from .shapes import Sequence, Subcommand, Word
 
 ABOUT = ("`registry` is what people type to a package registry with a version solver. It keeps packages, their "
          "versions and what those need in one file, the journal, and selects versions that fit together. What is "

@@ -12,9 +12,7 @@ from .files import read_file, write_file
 from .locks import DEFAULT, Unread, lock_of
 
 if TYPE_CHECKING:
-    from collections.abc import Sequence
-
-    from .shapes import Options, Pairs
+    from .shapes import Options, Pairs, Sequence
 
 NEED = re.compile(r"\s*([^@\s]*)(?:(?:\s*@\s*|\s+)(.*))?", re.S)  # of a text without white space at its end
 # what other tools have in place of the @: `log==1.0.0`, `log:1.0.0`, `log-1.0.0`, `log/1.0.0`, `log(>=1)`

@@ -10,11 +10,7 @@ from collections import namedtuple
 from . import TYPE_CHECKING
 
 if TYPE_CHECKING:
-    from collections.abc import Iterable
-    from typing import TextIO
-
-    from .failures import Failure
-    from .shapes import Options
+    from .shapes import Failure, Iterable, Options, TextIO
 
 STYLES = {"bold": "1", "faint": "2", "red": "31", "green": "32", "yellow": "33"}
 # stands for the beginning of a colour's code until a line is printed: no text has it by chance

@@ -9,10 +9,7 @@ from .check_derivation import Registry, demand, precedence
 from .failures import Failed
 
 if TYPE_CHECKING:
-    from collections.abc import Iterable, Mapping, Sequence
-
-    from .catalog import Catalog
-    from .shapes import Pairs, Request, Row
+    from .shapes import Catalog, Iterable, Mapping, Pairs, Request, Row, Sequence
 
 
 def registry_of(commands: Sequence[Request], names: Iterable[str]) -> Registry:

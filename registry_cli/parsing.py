@@ -17,10 +17,7 @@ from .failures import Usage
 from .table import COMMON, SUBCOMMANDS
 
 if TYPE_CHECKING:
-    from collections.abc import Callable, Sequence
-    from typing import Any, NoReturn
-
-    from .table import Subcommand, Word
+    from .shapes import Any, Callable, NoReturn, Sequence, Subcommand, Word
 
 WIDE = 78  # of sentences in the help
 UNKNOWN = 80  # columns of what is no terminal

@@ -18,10 +18,8 @@ from .packages import named
 from .renewal import commands_of, releases_of
 
 if TYPE_CHECKING:
-    from collections.abc import Collection, Iterable, Iterator, Mapping, Sequence
-
     from .renewal import Release
-    from .shapes import Cause, Pairs, RegistryOf, Reply, Request, Row
+    from .shapes import Cause, Collection, Iterable, Iterator, Mapping, Pairs, RegistryOf, Reply, Request, Row, Sequence
 
 MADE, VERSION = "made", "1.0.0"  # how the names begin of packages that are made for a question, and the version of each
 

@@ -11,9 +11,7 @@ from .failures import Refused
 from .limits import MOST_NEEDS, MOST_PACKAGES, MOST_VERSIONS
 
 if TYPE_CHECKING:
-    from collections.abc import Callable, Collection, Iterable, Mapping, Sequence
-
-    from .shapes import Asking, Listed, Pairs, Reply, Request
+    from .shapes import Asking, Callable, Collection, Iterable, Listed, Mapping, Pairs, Reply, Request, Sequence
 
 MOST_TOLD = 3
 SHORTEST = 3  # of names that are shorter each is near to any other

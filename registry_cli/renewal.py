@@ -10,11 +10,8 @@ from .limits import MOST_NEEDS, MOST_REQUIREMENT_BYTES
 from .needs import needs_known
 
 if TYPE_CHECKING:
-    from collections.abc import Collection, Iterable, Iterator, Mapping
-
-    from .bar import Bar
     from .check_derivation import Version
-    from .shapes import Asking, Pairs, Reply, Request
+    from .shapes import Asking, Bar, Collection, Iterable, Iterator, Mapping, Pairs, Reply, Request
 
     Key = tuple[str, Version]
     Releases = Mapping[Key, "Release"]

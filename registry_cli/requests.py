@@ -10,10 +10,7 @@ from .locks import lock_of
 from .needs import needs_given
 
 if TYPE_CHECKING:
-    from collections.abc import Iterator, Mapping, Sequence
-
-    from .output import Output
-    from .shapes import Asking, Listed, Options, Pairs, Reading, Reply, Request
+    from .shapes import Asking, Iterator, Listed, Mapping, Options, Output, Pairs, Reading, Reply, Request, Sequence
 
 
 def request_of(options: Options, lock: Mapping[str, str] | None = None) -> Request:

@@ -11,10 +11,7 @@ from . import TYPE_CHECKING, bar, output
 from .failures import Failed, Unanswered
 
 if TYPE_CHECKING:
-    from collections.abc import Iterator, Sequence
-    from typing import Protocol
-
-    from .shapes import Request
+    from .shapes import Iterator, Protocol, Request, Sequence
 
     class Searching(Protocol):
         """What can end its search."""

@@ -16,12 +16,8 @@ from .program import program
 from .searching import asking
 
 if TYPE_CHECKING:
-    from collections.abc import Collection, Iterator, Sequence
-    from typing import IO, Protocol, TypeVar
-
     from . import shapes, shell
-    from .connected import Connected
-    from .shapes import Options, Reply, Request
+    from .shapes import Collection, Connected, IO, Iterator, Options, Protocol, Reply, Request, Sequence, TypeVar
 
     class HasText(Protocol):
         """What has a journal's text."""

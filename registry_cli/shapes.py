@@ -1,12 +1,28 @@
-"""The shapes of what goes from module to module, for annotations alone: nothing loads this when the command runs."""
+"""What annotations name, which is imported from here: above all the shapes of what goes from module to module. Nothing
+loads this when the command runs."""
 from __future__ import annotations
 
-from collections.abc import Callable, Iterable, Iterator, Mapping, Sequence
+from collections.abc import Callable, Collection, Container, Iterable, Iterator, Mapping, Sequence
+from io import FileIO
+from pathlib import Path
 from types import TracebackType
-from typing import Any, Protocol, TypedDict, TypeVar
+from typing import IO, Any, BinaryIO, NoReturn, Protocol, TextIO, TypeVar, TypedDict, Union
 
-from .check_derivation import Registry
+from .bar import Bar
+from .cases import Case
+from .catalog import Catalog
+from .check_derivation import Registry, Terms
+from .connected import Connected
+from .derivation import Derivation, Fact, Step
+from .failures import Failure
+from .locks import Lock
+from .output import Output
+from .table import Subcommand, Takes, Word
 
+__all__ = [  # that are named here for other modules too
+    "Any", "Bar", "BinaryIO", "Callable", "Case", "Catalog", "Collection", "Connected", "Container", "Derivation",
+    "Fact", "Failure", "FileIO", "IO", "Iterable", "Iterator", "Lock", "Mapping", "NoReturn", "Output", "Path",
+    "Protocol", "Registry", "Sequence", "Step", "Subcommand", "Takes", "Terms", "TextIO", "TypeVar", "Union", "Word"]
 Pairs = list[list[str]]  # of names with requirements or versions, as lines have them
 Listed = tuple[str, bool]  # a version, and whether it is yanked
 Object = Mapping[str, Any]  # an object of JSON that nobody has judged

@@ -13,11 +13,9 @@ from .needs import needs_of
 from .refusals import misspelled
 
 if TYPE_CHECKING:
-    from collections.abc import Callable, Collection, Iterable, Iterator, Mapping, Sequence
-
     from .check_derivation import Version
     from .indexes.index import Crate, Dependency, Index, Notes
-    from .shapes import Pairs, Request
+    from .shapes import Callable, Collection, Iterable, Iterator, Mapping, Pairs, Request, Sequence
 
     Chosen = Mapping[str, Sequence[Release]]  # the releases by crate that are written
 

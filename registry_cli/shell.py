@@ -13,9 +13,7 @@ from .failures import DONE, INTERRUPTED, USAGE, Refused
 from .main import EndedBySignal, guarded, status_of
 
 if TYPE_CHECKING:
-    from collections.abc import Callable, Iterable, Iterator, Sequence
-
-    from .shapes import Reply, Request
+    from .shapes import Callable, Iterable, Iterator, Reply, Request, Sequence
 
 PROMPT, MOST_KEPT = "registry> ", 1000
 LEAVING = (["exit"], ["quit"])

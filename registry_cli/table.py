@@ -8,7 +8,7 @@ from . import TYPE_CHECKING
 from .limits import MOST_VERSIONS
 
 if TYPE_CHECKING:
-    from typing import Union
+    from .shapes import Union
 
     Takes = Union[str, range, tuple[str, ...]]
 

@@ -10,9 +10,7 @@ from . import TYPE_CHECKING
 from .derivation import FAILED, joined
 
 if TYPE_CHECKING:
-    from collections.abc import Iterator
-
-    from .derivation import Derivation, Step
+    from .shapes import Derivation, Iterator, Step
 
 
 class Telling:

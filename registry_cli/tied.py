@@ -22,8 +22,7 @@ import threading
 from . import TYPE_CHECKING
 
 if TYPE_CHECKING:
-    from collections.abc import Callable, Collection, Mapping, Sequence
-    from typing import IO, Any, Protocol
+    from .shapes import Any, Callable, Collection, IO, Mapping, Protocol, Sequence
 
     class HasNumber(Protocol):
         """A file, or a socket."""

@@ -17,7 +17,7 @@ from .failures import InUse, Usage
 from .output import Output
 
 if TYPE_CHECKING:
-    from io import FileIO
+    from .shapes import FileIO
 
 LOOK, LONGEST, SILENT = 0.1, 0.5, 1  # seconds: between two looks, at most between two tries, and until it is told
 

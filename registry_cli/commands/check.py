@@ -12,13 +12,8 @@ from ..failures import DONE, REFUSED, Failed, one_line
 from ..limits import MOST_LINE_BYTES
 
 if TYPE_CHECKING:
-    from collections.abc import Iterator
-    from typing import BinaryIO
-
     from registryd_lines.fault import Fault
-
-    from ..output import Output
-    from ..shapes import Options
+    from ..shapes import BinaryIO, Iterator, Options, Output
 
 
 def run(options: Options, out: Output) -> int:

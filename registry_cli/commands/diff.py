@@ -6,8 +6,7 @@ from ..failures import REFUSED
 from ..locks import changed, changes, coloured, counted, lock_of
 
 if TYPE_CHECKING:
-    from ..output import Output
-    from ..shapes import Options
+    from ..shapes import Options, Output
 
 
 def run(options: Options, out: Output) -> int | None:

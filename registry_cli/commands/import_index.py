@@ -21,12 +21,9 @@ from ..session import reading, writing
 from ..shelf import Shelf, choose, commands_of, counted, noted, other_spellings, request, roots
 
 if TYPE_CHECKING:
-    from collections.abc import Sequence
-
     from ..indexes.index import Dependency, Index
-    from ..output import Output
-    from ..shapes import Options, Pairs, Reply, Request
     from ..shelf import Chosen
+    from ..shapes import Options, Output, Pairs, Reply, Request, Sequence
 
 THERE_ALREADY = (7, 12)  # it is published, or yanked, already
 

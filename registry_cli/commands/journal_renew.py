@@ -10,12 +10,9 @@ from ..locks import lock_of
 from ..renewal import Lock, commands_of, needed, newest, releases_of
 
 if TYPE_CHECKING:
-    from collections.abc import Collection, Iterator, Mapping, Sequence
-    from typing import Protocol
-
     from ..journal_file import Journal
-    from ..output import Output
     from ..renewal import Key, Releases
+    from ..shapes import Collection, Iterator, Mapping, Output, Protocol, Sequence
 
     class Options(Protocol):
         """The words of this subcommand, whose --lock takes many."""

@@ -10,11 +10,8 @@ from ..failures import Failed, Refused
 from ..journal_file import FAULTY, fault_line, read_journal, refuse_existing, write_new
 
 if TYPE_CHECKING:
-    from collections.abc import Iterator, Sequence
-
     from ..journal_file import Journal
-    from ..output import Output
-    from ..shapes import Options
+    from ..shapes import Iterator, Options, Output, Sequence
 
 MOST_TOLD, MOST_SHOWN = 10, 200
 

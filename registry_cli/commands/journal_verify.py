@@ -6,11 +6,8 @@ from ..failures import REFUSED
 from ..journal_file import CUT, FAULTY, read_journal
 
 if TYPE_CHECKING:
-    from collections.abc import Iterator
-
     from ..journal_file import Journal
-    from ..output import Output
-    from ..shapes import Options
+    from ..shapes import Iterator, Options, Output
 
 
 def run(options: Options, out: Output) -> int | None:

@@ -8,11 +8,8 @@ from ..failures import REFUSED
 from ..session import Reading, reading
 
 if TYPE_CHECKING:
-    from collections.abc import Iterator, Sequence
-
     from .. import shapes
-    from ..output import Output
-    from ..shapes import Listed, Options
+    from ..shapes import Iterator, Listed, Options, Output, Sequence
 
 
 class Row(namedtuple("Row", "name newest versions yanked")):

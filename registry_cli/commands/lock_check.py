@@ -12,11 +12,7 @@ from ..refusals import accepted, listed, not_there
 from ..session import reading
 
 if TYPE_CHECKING:
-    from collections.abc import Iterable, Iterator, Mapping, Sequence
-
-    from ..check_derivation import Registry
-    from ..output import Output
-    from ..shapes import Listed, Options, Request
+    from ..shapes import Iterable, Iterator, Listed, Mapping, Options, Output, Registry, Request, Sequence
 
 
 def run(options: Options, out: Output) -> int | None:

@@ -14,8 +14,7 @@ from ..failures import Failed
 from ..session import journal_of, service_of, snapshot
 
 if TYPE_CHECKING:
-    from ..output import Output
-    from ..shapes import Options, Request
+    from ..shapes import Options, Output, Request
 
 PAUSE = 0.5  # seconds between two looks
 

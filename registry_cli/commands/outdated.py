@@ -17,12 +17,10 @@ from ..requests import answered, refused, request_of
 from ..session import reading
 
 if TYPE_CHECKING:
-    from collections.abc import Iterable, Iterator, Mapping, Sequence
-
-    from ..check_derivation import Registry
-    from ..derivation import Derivation, Fact
-    from ..output import Output
-    from ..shapes import Listed, Options, Reading, Reply, Request
+    from ..shapes import (
+        Derivation, Fact, Iterable, Iterator, Listed, Mapping, Options, Output, Reading, Registry, Reply, Request,
+        Sequence,
+    )
 
 BUDGET = 10_000  # conflicts of each question what holds a version back
 MOST_TOLD = 2

@@ -9,9 +9,8 @@ from ..page.server import Server
 from ..session import journal_of, service_of
 
 if TYPE_CHECKING:
-    from ..output import Output
     from ..page.journal import Source
-    from ..shapes import Options
+    from ..shapes import Options, Output
 
 SECONDS = 10  # that a search may take
 

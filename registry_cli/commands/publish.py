@@ -7,8 +7,7 @@ from ..refusals import accepted, listed, unpublished
 from ..session import writing
 
 if TYPE_CHECKING:
-    from ..output import Output
-    from ..shapes import Named, Request
+    from ..shapes import Named, Output, Request
 
 
 def run(options: Named, out: Output) -> None:

@@ -13,11 +13,7 @@ from ..requests import answered, lock_notes, refused, request_of
 from ..session import reading
 
 if TYPE_CHECKING:
-    from collections.abc import Mapping
-
-    from ..locks import Lock
-    from ..output import Output
-    from ..shapes import Options, Reply, Request
+    from ..shapes import Lock, Mapping, Options, Output, Reply, Request
 
 
 def run(options: Options, out: Output) -> int | None:

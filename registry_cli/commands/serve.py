@@ -11,8 +11,7 @@ from ..failures import FAILED, Usage
 from ..session import journal_of
 
 if TYPE_CHECKING:
-    from ..output import Output
-    from ..shapes import Served
+    from ..shapes import Output, Served
 
 
 def run(options: Served, out: Output) -> int | None:

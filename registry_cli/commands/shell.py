@@ -5,8 +5,7 @@ from .. import TYPE_CHECKING, shell
 from ..session import journal_of, patience_of, service_of
 
 if TYPE_CHECKING:
-    from ..output import Output
-    from ..shapes import Options
+    from ..shapes import Options, Output
 
 
 def run(options: Options, out: Output) -> int:

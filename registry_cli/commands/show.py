@@ -5,11 +5,8 @@ from .. import TYPE_CHECKING
 from ..session import reading
 
 if TYPE_CHECKING:
-    from collections.abc import Iterable, Iterator, Sequence
-
     from ..catalog import Version
-    from ..output import Output
-    from ..shapes import Named
+    from ..shapes import Iterable, Iterator, Named, Output, Sequence
 
 
 def run(options: Named, out: Output) -> None:

@@ -13,10 +13,7 @@ from ..requests import answered, needs_of, refused, request_of
 from ..session import reading
 
 if TYPE_CHECKING:
-    from collections.abc import Callable, Iterator, Mapping, Sequence
-
-    from ..output import Output
-    from ..shapes import Options
+    from ..shapes import Callable, Iterator, Mapping, Options, Output, Sequence
 
 UTF8 = {"tee": "├── ", "corner": "└── ", "down": "│   ", "none": "    "}
 ASCII = {"tee": "|-- ", "corner": "`-- ", "down": "|   ", "none": "    "}

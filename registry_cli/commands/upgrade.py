@@ -13,12 +13,8 @@ from ..requests import answered, lock_notes, refused, request_of
 from ..session import reading
 
 if TYPE_CHECKING:
-    from collections.abc import Collection, Mapping
-    from typing import Protocol
-
     from .. import shapes
-    from ..locks import Lock
-    from ..output import Output
+    from ..shapes import Collection, Lock, Mapping, Output, Protocol
 
     class Options(shapes.Options, Protocol):
         """The words of this subcommand, which takes many packages."""

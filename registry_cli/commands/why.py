@@ -19,13 +19,8 @@ from ..searching import explaining
 from ..session import Session, reading
 
 if TYPE_CHECKING:
-    from collections.abc import Callable, Iterable, Iterator, Sequence
-    from typing import Protocol
-
     from .. import shapes
-    from ..check_derivation import Registry
-    from ..output import Output
-    from ..shapes import Object, Reply, Request
+    from ..shapes import Callable, Iterable, Iterator, Object, Output, Protocol, Registry, Reply, Request, Sequence
 
     class Options(shapes.Options, Protocol):
         """The words of this subcommand; `version` is what --not takes, a name and a version."""

@@ -12,11 +12,8 @@ from ..files import read_plain
 from .index import Crate, Index, Release, Unusable, by_precedence, need
 
 if TYPE_CHECKING:
-    from collections.abc import Iterator
-    from typing import Any
-
-    from ..shapes import Pairs
     from .index import Dependency
+    from ..shapes import Any, Iterator, Pairs
 
     Table = dict[str, Any]  # of TOML
 

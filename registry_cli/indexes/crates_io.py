@@ -10,7 +10,7 @@ from ..files import read_plain
 from .index import Crate, Index, Release, Unusable, need
 
 if TYPE_CHECKING:
-    from typing import Any
+    from ..shapes import Any
 
 
 class CratesIo(Index):

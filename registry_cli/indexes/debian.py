@@ -11,9 +11,8 @@ from .. import TYPE_CHECKING
 from .index import Crate, Index, Release, Unusable, by_precedence, need
 
 if TYPE_CHECKING:
-    from collections.abc import Sequence
-
     from .index import Dependency
+    from ..shapes import Sequence
 
     Numbers = tuple[float, ...]  # three whole ones, or BEYOND
     Interval = tuple[Numbers, Numbers]

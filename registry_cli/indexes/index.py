@@ -13,9 +13,7 @@ from ..check_derivation import read_version
 from ..failures import Refused
 
 if TYPE_CHECKING:
-    from collections.abc import Iterable
-
-    from ..shapes import Pairs
+    from ..shapes import Iterable, Pairs
 
     Dependency = tuple[str, str]  # a crate's name and a requirement, or a version
 

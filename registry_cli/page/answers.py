@@ -17,12 +17,8 @@ from ..refusals import english, unpublished
 from ..telling import Telling
 
 if TYPE_CHECKING:
-    from collections.abc import Callable, Iterator, Mapping, Sequence
-    from typing import Union
-
-    from ..derivation import Derivation, Fact, Step
-    from ..shapes import Pairs, Reply, Request
     from .journal import Journal, View
+    from ..shapes import Callable, Derivation, Fact, Iterator, Mapping, Pairs, Reply, Request, Sequence, Step, Union
 
     Query = Mapping[str, Sequence[str]]
     Field = list[Union[int, str]]  # the number of a need, and its part that is at fault

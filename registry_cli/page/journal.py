@@ -10,10 +10,8 @@ from ..failures import Failed, Unanswered
 from ..session import EMPTY, Reading, snapshot
 
 if TYPE_CHECKING:
-    from typing import Protocol
-
     from ..catalog import Version
-    from ..shapes import Reply, Request
+    from ..shapes import Protocol, Reply, Request
 
     class Source(Protocol):
         path: str

@@ -14,11 +14,9 @@ from ..failures import Failed, Failure, Refused, Unanswered, one_line
 from .answers import ANSWERS, AtFault, NotThere
 
 if TYPE_CHECKING:
-    from collections.abc import Callable
-    from typing import Any
-
     from .answers import Query, Value
     from .journal import Journal
+    from ..shapes import Any, Callable
 
 HOST = "127.0.0.1"
 FILES = os.path.join(os.path.dirname(os.path.abspath(__file__)), "files")
