@@ -1,5 +1,4 @@
-"""How many of some packages have a selection where each is requested alone, and what stands in the way of the
-others."""
+"""How many packages have a selection where each is requested alone, and what is in the way of the others."""
 from __future__ import annotations
 
 from itertools import combinations
@@ -62,6 +61,5 @@ def obstacles(reply: Reply) -> list[str]:
 
 
 def is_divided(target: str, premises: Iterable[Cause]) -> bool:
-    """Whether two of the dependencies on a package leave no version in common."""
     within = {frozenset(it["within"]) for it in premises if it["target"] == target and it["within"]}
     return any(one.isdisjoint(other) for one, other in combinations(within, 2))

@@ -1,5 +1,4 @@
-"""What standard error says while something takes long: what it is, and how far; nothing where that is no terminal, or
---quiet is given."""
+"""What standard error says while something takes long, where that is a terminal and --quiet is not given."""
 from __future__ import annotations
 
 import contextlib

@@ -62,7 +62,6 @@ class Case:
         return self.told + told_needs(self.request["needs"])
 
     def again(self, question: Question | None = None, lock: Pairs | None = None) -> Reply:
-        """The reply to this request, or to a question, perhaps with another lock."""
         explained: Request = {"explain": True}
         request = (question.request if question else self.request) | explained
         if lock is not None:
@@ -97,7 +96,6 @@ class Case:
 
     def derivation(self, title: str, request: Request, reply: Reply, asked: tuple[str, str] | None = None,
                    held: Mapping[str, str] | None = None) -> Derivation:
-        """The derivation of a refusal, which follows."""
         rows = reply.get("derivation") or self.again().get("derivation")
         if not rows:
             raise Refused(f"{title}: asked again, the program answers a selection")

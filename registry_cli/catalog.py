@@ -1,5 +1,4 @@
-"""What a registry has: each package with its versions, what these need, and who needs it. Of a journal's text only what
-is asked for is read: all of 49,152 commands take more than a second."""
+"""What a registry has. Of a journal's text only what is asked for is read: 49,152 commands take more than a second."""
 from __future__ import annotations
 
 import json
@@ -30,7 +29,6 @@ MENTION = rb'(?:\{"name":|\[)"([^"]+)",'  # a command's package, or what it need
 
 
 class Version(namedtuple("Version", "text is_yanked needing", defaults=[b"[]"])):
-    """A published version, and what it needs as JSON."""
     text: str
     is_yanked: bool
     needing: bytes
@@ -76,7 +74,6 @@ def pieces(text: bytes) -> Iterator[bytes]:
 
 
 def commands_in(text: bytes) -> list[bytes]:
-    """The lines of the commands that a whole journal has."""
     lines = text.split(b"\n")[1:-2]
     return [it for it in lines if not it.endswith(LEARN)] if LEARN in text else lines
 
@@ -117,7 +114,6 @@ class Catalog:
         return sum(it.count(b"\n") for it in self.lines.values())
 
     def published(self, name: str) -> list[Version]:
-        """The versions of a package in order of publication."""
         lines = self.lines.get(name, b"")
         versions = [Version(text.decode(), False, needs) for needs, text in re.findall(PUBLICATION, lines)]
         yanked = {precedence(text.decode()): op == b"yank" for op, text in re.findall(YANK, lines)}
@@ -137,7 +133,6 @@ class Catalog:
         return self.ranked(name)
 
     def version(self, name: str, text: str) -> Version:
-        """The version of a package that equals this one."""
         from .check_derivation import read_version
         versions = self.versions(name)
         found = next((it for it in versions if precedence(it.text) == read_version(text)), None)

@@ -96,7 +96,6 @@ def read_version(text: str) -> Version | None:
 
 
 def precedence(text: str) -> Version:
-    """The same of a text that is known to be a version."""
     version = read_version(text)
     if version is None:
         raise ValueError(f"{text} is no version")
@@ -153,7 +152,6 @@ class Registry:
         self.revision = 0
 
     def matching(self, name: str, requirement: str) -> frozenset[int]:
-        """The ordinals of the published versions of a package that meet a requirement."""
         held = self.releases.get(name, [])
         return frozenset(place for place, it in enumerate(held) if admits(requirement, it.version))
 

@@ -1,5 +1,4 @@
-"""Completion: what may stand at the end of a command line of `registry`, by the table, or of `registryd`, and the few
-lines of each shell that ask for it."""
+"""What may stand at the end of a command line of `registry`, by the table, or of `registryd`."""
 from __future__ import annotations
 
 import os
@@ -57,7 +56,6 @@ def of_program(before: list[str], current: str) -> tuple[str, Sequence[str]]:
 
 
 def candidates(before: list[str], current: str) -> tuple[str, Sequence[str]]:
-    """What may stand behind some words, and those words that are known."""
     before = before[before[:1] == ["help"]:]
     valued = {it.flag: it for it in COMMON if it.names}
     if before and before[-1] in valued:

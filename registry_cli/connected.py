@@ -33,7 +33,6 @@ class Lost(Exception):
 
 
 def connect(address: str) -> socket.socket:
-    """A connection to a service, whose address is the path of its socket, or HOST:PORT."""
     host, colon, port = address.rpartition(":")
     connection = None
     try:
@@ -147,7 +146,6 @@ class Connected:
                     raise Failed(f"the service at {self.path} broke off before it had answered, and {what}") from fault
 
     def journal(self) -> bytes:
-        """The journal's text at the revision of the last reply."""
         self.text = journal_of_service(self.path, self.revision)
         return self.text
 

@@ -1,8 +1,4 @@
-"""What a derivation says, step by step in English: which versions a set is, what a fact says, and what a step
-concludes.
-
-A range of versions means those that are published, by precedence.
-"""
+"""What a derivation says, step by step. A range of versions means those that are published, by precedence."""
 from __future__ import annotations
 
 import json

@@ -1,8 +1,7 @@
 """Pictures of a derivation and of a selection, as SVG.
 
-A derivation is a column of boxes, one a line, each below those that it rests on; a line on the left leads from a box to
-those that cite it. A selection is a staircase of packages: what a package needs is found to the right of it and then
-down.
+A derivation is a column of boxes, each below those that it rests on; a line on the left leads from a box to those that
+cite it. A selection is a staircase of packages: what a package needs is to the right of it and then down.
 """
 from __future__ import annotations
 
@@ -122,7 +121,6 @@ class Box:
         return max(*(width(it, SAID) for it in self.said), *(width(it, WHY) for it in self.why))
 
     def enters(self, number: int | None) -> float:
-        """How high the line from a cited one comes in."""
         return self.top + 11 + 9 * self.cites.index(number)
 
     def leaves(self) -> float:
@@ -144,7 +142,6 @@ class Box:
 
 
 def facts_of(step: Step) -> list[Fact]:
-    """The facts that a step rests on; what has no line of its own is told by its facts."""
     facts: list[Fact] = []
     for cause in step.causes:
         if isinstance(cause, Fact):
@@ -200,7 +197,6 @@ def legend(derivation: Derivation, boxes: Sequence[Box]) -> list[str]:
 
 
 def draw_derivation(derivation: Derivation, title: str, failed: str = FAILED, most: float = MOST_SHOWN) -> str:
-    """The picture of a derivation, folded where it has more than so many lines."""
     title = textwrap.shorten(title, MOST_LETTERS, placeholder=" ..")
     boxes = [Box(derivation, step, failed, hidden) for step, hidden in folded(derivation, most).items()]
     told = legend(derivation, boxes)

@@ -1,5 +1,4 @@
-"""Why a subcommand ends without what was asked for: the exit statuses, and exceptions whose text is the line that
-people read."""
+"""Why a subcommand ends without what was asked for: statuses, and exceptions with the line that people read."""
 from __future__ import annotations
 
 from . import TYPE_CHECKING

@@ -68,7 +68,6 @@ def write_whole(path: str, text: bytes, mode: int, place: Callable[[str, str], o
 
 
 def umask() -> int:
-    """The mode that new files are made without."""
     before = os.umask(0o077)
     os.umask(before)
     return before

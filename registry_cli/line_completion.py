@@ -26,7 +26,6 @@ def complete(text: str, state: int) -> str | None:
 
 
 def offered(before: str, current: str) -> list[str]:
-    """What may stand behind a text for the beginning of a word."""
     try:
         words = shlex.split(before)
     except ValueError:

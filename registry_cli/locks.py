@@ -29,14 +29,12 @@ class Lock(namedtuple("Lock", "selected needs revision", defaults=[None, None]))
 
 
 def are_read(pairs: object, read: Callable[[str], object]) -> bool:
-    """Whether a value is pairs of a name, each name once, and a text that is read."""
     if not isinstance(pairs, list) or not formed(pairs, PAIRS):
         return False
     return len(dict(pairs)) == len(pairs) and all(NAME.fullmatch(name) and read(it) is not None for name, it in pairs)
 
 
 def read_lock(text: bytes, path: str) -> Lock:
-    """The lock that stands in bytes of a file: a lock list, or an object that has one beside what it was made of."""
     import json
     try:
         value = json.loads(text.decode()) if len(text) <= MOST_LINE_BYTES else None
@@ -50,7 +48,6 @@ def read_lock(text: bytes, path: str) -> Lock:
 
 
 def faulty(path: str, text: bytes) -> str:
-    """What is wrong with a lock file: the fault for which the program would refuse it."""
     from registryd_lines.fault import placed
     from registryd_lines.judging import lock_faults
     fault = lock_faults(text)[0]
@@ -74,7 +71,6 @@ def lock_text(lock: Lock) -> str:
 
 
 def array(rows: Sequence[Sequence[str]], before: str = "") -> str:
-    """An array as JSON, with an item a line behind this much space."""
     import json
     if not rows:
         return "[]"

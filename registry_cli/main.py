@@ -65,7 +65,6 @@ def overview(words: list[str]) -> int:
 
 
 def guarded(words: list[str]) -> int:
-    """The same, with what goes wrong as one line, and as JSON where that is wanted."""
     out = Output("--json" in words)
     try:
         status = run(words, out)

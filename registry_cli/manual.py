@@ -30,7 +30,6 @@ FILES = (("registry.journal", "The journal, in the folder where the command is g
 
 
 def escaped(text: str) -> str:
-    """A text as roff shows it."""
     for letter, roff in (("\\", "\\e"), ("-", "\\-"), ("^", "\\(ha"), ("~", "\\(ti"), ("`", "\\(ga")):
         text = text.replace(letter, roff)
     return "\\&" + text if text[:1] in (".", "'") else text

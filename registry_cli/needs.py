@@ -74,7 +74,6 @@ def needs_path(lock: str) -> str:
 
 
 def read_needs(path: str) -> Pairs:
-    """The needs of a file: a name and a requirement a line, or a name alone; what stands behind a `#` is a comment."""
     try:
         text = read_file(path).decode()
     except UnicodeDecodeError:

@@ -1,5 +1,4 @@
-"""Where answers go: lines for people, wrapped and in colour on a terminal, or JSON where `--json` asks for it; and
-standard error."""
+"""Where answers go: lines for people, wrapped and in colour on a terminal, or JSON; and standard error."""
 from __future__ import annotations
 
 import os
@@ -71,7 +70,6 @@ def numbered(code: int) -> str:
 
 
 def wrapped(line: str, columns: int) -> str:
-    """A line broken between words into rows of so many columns."""
     if not columns:
         return line
     import re
@@ -124,8 +122,6 @@ def detail(text: str) -> None:
 
 
 class Output:
-    """Standard output and standard error of one subcommand."""
-
     def __init__(self, is_json: bool = False) -> None:
         self.is_json, self.has_answered = is_json, False
 
@@ -152,7 +148,6 @@ class Output:
 
     @staticmethod
     def note(text: str) -> None:
-        """One such line: what is worth knowing, and no answer."""
         aside(f"{style('registry:', sys.stderr, 'bold')} {text}")
 
     @staticmethod

@@ -1,5 +1,4 @@
-"""The registry in Python that refusals are told of, by the rules carried out once more, from a journal's commands;
-and the walk of a selection."""
+"""The registry in Python that refusals are told of, by the rules carried out once more; and walks of selections."""
 from __future__ import annotations
 
 from itertools import chain

@@ -1,5 +1,4 @@
-"""Reads the words of a command line by the parser of the standard library, which tells what is wrong with them, and has
-the help."""
+"""Reads the words of a command line by argparse, which tells what is wrong with them and has the help."""
 from __future__ import annotations
 
 import argparse
@@ -28,8 +27,6 @@ WORDS_ELSEWHERE = ("need", "needs", "dep", "deps", "dependency", "dependencies",
 
 
 class Parser(argparse.ArgumentParser):
-    """A parser whose faults are exceptions, in one line."""
-
     def error(self, message: str) -> NoReturn:
         option = message.partition("--")[2].partition(" ")[0].partition("=")[0].rstrip(":")
         known = self._option_string_actions

@@ -60,7 +60,6 @@ class Question:
         return self.told_back(reply, [name for name, _ in needs], {it["name"] for it in made}, registry)
 
     def told_back(self, reply: Reply, asked: Sequence[str], made: set[str], registry: RegistryOf) -> Reply:
-        """A reply without the packages that were made, of which some were `asked` for."""
         told: Reply = {}
         if "selected" in reply:
             told = {"selected": [it for it in reply["selected"] if it[0] not in made]}

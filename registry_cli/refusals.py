@@ -61,7 +61,6 @@ def misspelled(request: Request, number: int) -> str:
 
 
 def repeated(needs: Pairs, lock: Pairs) -> str:
-    """The package that is named twice, in the needs or else in the lock."""
     for names in ([name for name, _ in pairs] for pairs in (needs, lock)):
         for it in names:
             if names.count(it) > 1:
@@ -97,7 +96,6 @@ def english(request: Request, reply: Reply, packages: Callable[[], Mapping[str, 
 
 
 def listed(session: Asking) -> dict[str, list[Listed]]:
-    """The packages of a session with their versions, as pairs of a text and whether it is yanked."""
     (reply,) = session.ask({"op": "list"})
     return dict(reply["packages"])
 

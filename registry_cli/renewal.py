@@ -1,6 +1,5 @@
-"""What of a registry is kept where its journal begins anew: what lock files select, the newest versions of each
-package, and what those need. What these need is asked of the program: so whatever is kept can be selected as before,
-alone and by its lock file."""
+"""What is kept where a journal begins anew: what lock files select, the newest versions of each package, and what those
+need by the program's selection: so whatever is kept can be selected as before, alone and by its lock file."""
 from __future__ import annotations
 
 from typing import TYPE_CHECKING, NamedTuple
@@ -57,7 +56,6 @@ def newest(releases: Releases, most: int) -> set[Key]:
 
 
 def selected(reply: Reply) -> set[Key]:
-    """The keys of a selection; none where there is no selection."""
     return {(name, precedence(text)) for name, text in reply.get("selected", [])}
 
 
@@ -79,7 +77,6 @@ class Lock:
         self.replies: list[Reply] = []
 
     def ask(self, session: Asking) -> list[Reply]:
-        """The answers to its requests, without the revision."""
         replies = [it.copy() for it in session.ask(*self.requests)]
         for it in replies:
             it.pop("revision", 0)
@@ -132,7 +129,6 @@ def needed(session: Asking, releases: Releases, kept: Collection[Key], bar: Bar)
 
 
 def commands_of(releases: Releases, kept: Collection[Key]) -> Iterator[Request]:
-    """The commands that publish what is kept, in the order of before, and yank what was yanked."""
     for key, it in releases.items():
         if key in kept:
             yield {"op": "publish", "name": it.name, "version": it.text, "needs": it.needs}

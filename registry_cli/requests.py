@@ -26,13 +26,11 @@ def request_of(options: Options, lock: Mapping[str, str] | None = None) -> Reque
 
 
 def answered(session: Asking, request: Request) -> Reply:
-    """The reply to a request: a selection, or that there is none. A refusal by number is told."""
     from .refusals import accepted  # while the program loads the journal
     return accepted(session, request, *session.ask(request))
 
 
 def refused(session: Reading, request: Request, reply: Reply, out: Output) -> int:
-    """Tells why no selection meets a request, and answers the exit status."""
     from .cases import Case
     from .catalog import catalog_of
     from .explaining import tell
@@ -49,7 +47,6 @@ def refused(session: Reading, request: Request, reply: Reply, out: Output) -> in
 
 
 def lock_notes(path: str, lock: Mapping[str, str], packages: Mapping[str, Sequence[Listed]]) -> Iterator[str]:
-    """What is worth knowing of a lock file's entries: those that are yanked, and those that are not published."""
     for name, text in sorted(lock.items()):
         found = [yanked for other, yanked in packages.get(name, []) if read_version(other) == read_version(text)]
         if not found:

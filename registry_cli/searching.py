@@ -1,5 +1,4 @@
-"""What is done while the program is asked, and while its answer is explained: a terminal is told how long it takes, and
-what takes too long is ended."""
+"""While the program is asked or its answer explained: a terminal is told how long it takes, and too long is ended."""
 from __future__ import annotations
 
 import contextlib

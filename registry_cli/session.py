@@ -1,6 +1,5 @@
-"""Asks the program. A session that reads takes a journal as it stands at one moment, also while another one writes it,
-and needs neither its lock nor the right to write; one that writes holds the lock, and what it is told as accepted
-stands in the file."""
+"""Asks the program. A session that reads takes a journal as it stands at one moment and needs neither its lock nor the
+right to write; one that writes holds the lock, and what it is told as accepted stands in the file."""
 from __future__ import annotations
 
 import contextlib
@@ -81,7 +80,6 @@ def reading(options: Options) -> shapes.Reading:
 
 
 def writing(options: Options) -> shapes.Asking:
-    """A session whose commands are kept."""
     service, path, patience = service_of(options), journal_of(options), patience_of(options)
     if service:
         return connected(service)
@@ -198,7 +196,6 @@ class Session:
         self.process.kill()
 
     def ended(self) -> Failed:
-        """Why the program has ended, or is ended since it wrote no reply."""
         try:
             status = self.process.wait(timeout=1)
         except subprocess.TimeoutExpired:
@@ -217,7 +214,6 @@ class Session:
             raise self.ended()
 
     def leave(self) -> None:
-        """Ends the program, whatever it does."""
         if self.process.poll() is None:
             self.process.kill()
             self.process.wait()
@@ -243,8 +239,6 @@ class Session:
 
 
 class Reading(Session):
-    """A session on a journal as it stood when this was begun, or as it is told to have stood."""
-
     def __init__(self, path: str, text: bytes | None = None) -> None:
         self.text = snapshot(path) if text is None else text
         with shared(self.text) as file:

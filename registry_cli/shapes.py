@@ -1,5 +1,4 @@
-"""What annotations name, which is imported from here: above all the shapes of what goes from module to module. Nothing
-loads this when the command runs."""
+"""What annotations name: above all the shapes of what goes from module to module. No command loads this."""
 from __future__ import annotations
 
 from collections.abc import Callable, Collection, Container, Iterable, Iterator, Mapping, Sequence

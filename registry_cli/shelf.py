@@ -32,8 +32,6 @@ def merged(needs: Iterable[Dependency], spelled: Callable[[str], str]) -> Iterat
 
 
 class Shelf:
-    """The releases of an index that the program accepts, by crate. They are read when they are asked for."""
-
     def __init__(self, index: Index) -> None:
         self.index = index
         self.crates: dict[str, Crate] = {}
@@ -183,7 +181,6 @@ def roots(index: Index, crates: Sequence[str] | None) -> list[Dependency]:
 
 
 def request(index: Index, needs: Sequence[Dependency], locked: Pairs) -> Request:
-    """A resolve line for what was begun with, locked to what Cargo.lock has."""
     if not needs:
         raise Unusable("there is nothing to ask for: name it by --from")
     for name, _ in needs[MOST_NEEDS:]:

@@ -1,5 +1,4 @@
-"""A shell: command lines one after the other, over one session that stays open. On a terminal they are typed, with a
-history and completion; else they are read to their end."""
+"""Command lines one after the other, over one session: typed with a history and completion, or read to their end."""
 from __future__ import annotations
 
 import contextlib
@@ -31,7 +30,6 @@ class Kept(session.Writing):
 
     @property
     def text(self) -> bytes:
-        """The journal as it stands: what was accepted stands in the file."""
         return session.snapshot(self.path)
 
     def each(self, requests: Sequence[Request]) -> Iterator[Reply]:
@@ -165,7 +163,6 @@ def obey(words: list[str] | None) -> int:
 # ---- at a terminal
 
 def history() -> Callable[[], None]:
-    """Begins with the lines of before, and answers what keeps one more; nothing is kept where that can't be."""
     try:
         import readline
     except ImportError:

@@ -1,5 +1,4 @@
-"""The subcommands of `registry`, with their words. What reads words, the help, the completions and the manual page are
-made of it."""
+"""The subcommands with their words: what reads words, the help, completions and the manual page are made of it."""
 from __future__ import annotations
 
 from collections import namedtuple

@@ -1,9 +1,6 @@
-"""The English of a refusal, from its derivation alone.
-
-How sentences are put in order and joined is told in Dart pub's doc/solver.md, "Error Reporting": a step that is cited
-more than once has a number, two steps of a chain may share a sentence, and of two branches the one that takes more is
-told first. Each sentence speaks of the selections that meet the request.
-"""
+"""The English of a refusal, from its derivation, put in order and joined as Dart pub's doc/solver.md tells, "Error
+Reporting": a step that is cited more than once has a number, two steps of a chain may share a sentence, and of two
+branches the one that takes more is told first. Each sentence speaks of the selections that meet the request."""
 from __future__ import annotations
 
 from . import TYPE_CHECKING

@@ -1,14 +1,11 @@
 """Programs that end with the one that began them, however that one ends.
 
-The system sends a signal to whoever owns a pipe's end once nobody holds the other end any more. So a program inherits
-the one end and is made its owner, and whoever began it holds the other and closes it by ending, also by SIGKILL in the
-middle of a search. A process's death signal (`PR_SET_PDEATHSIG`) would come when the thread ends that began it, and
-would need code between fork and exec.
+The system sends a signal to the owner of a pipe's end once nobody holds the other end any more. So a program inherits
+one end as its owner, and whoever began it holds the other and closes it by ending, also by SIGKILL in the middle of a
+search. (A death signal, `PR_SET_PDEATHSIG`, would come when the thread ends that began it, and would need code between
+fork and exec.) A program that is not yet tied has been asked nothing: it ends with its closed input.
 
-A program that is begun and not yet tied has been asked nothing: it ends with its closed input.
-
-What is installed begins the program without its script, so glibc is asked here for huge pages, as `./registryd`
-does."""
+What is installed begins the program without its script, so glibc is asked here for huge pages, as that does."""
 from __future__ import annotations
 
 import contextlib

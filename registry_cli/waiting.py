@@ -1,8 +1,7 @@
 """Waiting for a journal that another session writes.
 
-Whoever waits first takes its turn: a lock of this command's own on the journal's file (`lockf`), beside the one that a
-session's program has (`flock`). So of many sessions one at a time begins its program, in no certain order. The system
-takes both locks off as soon as their process has ended."""
+Whoever waits first takes its turn: a lock of this command's own on the file (`lockf`), beside that of a session's
+program (`flock`). So one at a time begins its program. The system takes both off as soon as their process has ended."""
 from __future__ import annotations
 
 import contextlib
@@ -55,7 +54,6 @@ def holding(path: str) -> int:
 
 
 def holder(path: str) -> Holder | None:
-    """Who has the lock of a file; none where the system doesn't tell."""
     pid = holding(path)
     with contextlib.suppress(OSError, ValueError):
         if pid:

@@ -34,14 +34,11 @@ MOST_SECONDS = 10 ** 9
 
 
 class Words(argparse.ArgumentParser):
-    """A parser whose faults are told in one line."""
-
     def error(self, message: str) -> NoReturn:
         self.exit(2, f"registryd-etcd: {visible(message)}: see registryd-etcd --help\n")
 
 
 def number(least: int, most: int) -> Callable[[str], int]:
-    """The reader of a word that is a whole number between these two."""
     def read(word: str) -> int:
         if not (word.isascii() and word.isdigit()) or not least <= int(word[:20]) <= most:
             raise argparse.ArgumentTypeError(f"'{word}' is no whole number from {least} to {most}")
@@ -50,7 +47,6 @@ def number(least: int, most: int) -> Callable[[str], int]:
 
 
 def seconds(word: str) -> float:
-    """Reads a word that is so many seconds."""
     try:
         found = float(word)
     except ValueError:
@@ -61,7 +57,6 @@ def seconds(word: str) -> float:
 
 
 def name(word: str) -> str:
-    """Reads a word that keys or entries will bear."""
     if not word or not word.isprintable():
         raise argparse.ArgumentTypeError(f"{word!r} is no name")
     return word

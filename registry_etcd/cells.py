@@ -1,9 +1,8 @@
-"""A row of write-once cells in etcd: the entry at place 1 stands in the first, and the cell at place 0 says that there
-is a row.
+"""A row of write-once cells in etcd: the entry at place 1 stands in the first; a cell at place 0 says that there is one.
 
-Two transactions write. `Cells.put` makes the cells behind one that is there, where none is; `Snapshots.renew` takes
-away those before one that stays. So the cells that stand are always those from one place to the last, without a hole,
-and a writer that was held up, however long, can't put anything in front of that or between."""
+Two transactions write. `Cells.put` makes cells behind one that is there, where none is; `Snapshots.renew` takes away
+those before one that stays. So the cells that stand are always those from one place to the last, without a hole, and a
+writer that was held up, however long, can't put anything in front of that or between."""
 from __future__ import annotations
 
 import json
@@ -75,14 +74,12 @@ class Cells:
         self.gateway, self.prefix = gateway, prefix
 
     def elsewhere(self) -> Cells:
-        """The same cells, over a connection of its own."""
         return Cells(self.gateway.another(), self.prefix)
 
     def key(self, place: int) -> str:
         return encoded(f"{self.prefix}/cells/{place:08}".encode())
 
     def bounds(self, place: int) -> Message:
-        """The range of the keys from a place on."""
         return {"key": self.key(place), "range_end": encoded(f"{self.prefix}/cells0".encode())}
 
     def page(self, last: Cell) -> Message:
@@ -155,7 +152,6 @@ class Cells:
 
     @understood()
     def news(self, told: Message) -> list[Cell]:
-        """The cells that were put by what a watch tells."""
         if told.get("canceled"):
             raise Unanswered("the watch has ended")
         return [self.cell(event["kv"]) for event in told.get("events", []) if event.get("type", "PUT") == "PUT"]

@@ -128,7 +128,6 @@ class Gateway:
         self.silent_since: float | None = None  # when the first was asked of the requests since the last answer
 
     def another(self) -> Gateway:
-        """The same members, asked over a connection of its own."""
         return Gateway(self.members, self.context, self.timeout, self.patience)
 
     def connect(self) -> Plain | Secure:
@@ -155,7 +154,6 @@ class Gateway:
         self.silent_since = None
 
     def post(self, path: str, asked: Message, end: float) -> http.client.HTTPResponse:
-        """Sends one request, and answers the response, whose status is 200."""
         try:
             self.connection = self.connection or self.connect()
             self.connection.request("POST", path, json.dumps(asked).encode(), {"Content-Type": "application/json"})
@@ -260,7 +258,6 @@ def keep_alive(connection: socket.socket) -> None:
 
 
 def refusal(body: bytes) -> Unanswered | Fault:
-    """What a response of another status than 200 means."""
     try:
         said = json.loads(body)
         text, code = str(said.get("error")), said.get("code")

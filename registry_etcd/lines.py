@@ -20,8 +20,6 @@ REQUESTS = (b'{"op":"resolve",', b'{"op": "resolve",')
 
 
 class Line:
-    """A request line with its number, and the command that it gives."""
-
     def __init__(self, number: int, text: bytes) -> None:
         self.number, self.text = number, text
         self.op, self.command = read_line(text)

@@ -95,7 +95,6 @@ class Replica:
         return [reply for some in self.each(lines) for reply in some]
 
     def end(self) -> None:
-        """Ends the child, whatever state it is in."""
         self.child.kill()
         self.child.communicate()
         self.child.let_go()

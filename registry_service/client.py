@@ -98,7 +98,6 @@ class Client(asyncio.Protocol):
         return True
 
     def end_input(self) -> None:
-        """Takes no more lines: once those that came are answered, the connection is closed."""
         self.is_ended = True
         self.go_on()
 

@@ -1,5 +1,4 @@
-"""What a service answers over HTTP: its counts, whether it is well, the journal as it stands, and when its commands
-came."""
+"""What a service answers over HTTP: its counts, whether it is well, the journal, and when its commands came."""
 from __future__ import annotations
 
 import asyncio
@@ -62,7 +61,6 @@ def page(service: Service, transport: asyncio.BaseTransport | None = None,
 
 
 async def tell(service: Service, reader: asyncio.StreamReader, writer: asyncio.StreamWriter) -> None:
-    """Answers one request, if it comes and the answer is read in time."""
     place = writer.transport
     is_guest = place not in service.pages and not service.takes_in(place, service.pages)
     try:
@@ -163,7 +161,6 @@ def metrics(service: Service, build: str) -> bytes:
 
 
 def build() -> str:
-    """What the program says of itself, as labels."""
     said = ""
     with contextlib.suppress(Failed, OSError):
         said = version()

@@ -41,7 +41,6 @@ class Keeper(Supervisor[Child]):
             self.child.ask(asked.line, self.answered)
 
     def accept(self, line: bytes) -> None:
-        """A command, by its line in the journal."""
         self.revision += 1
         self.accepted.update(line)
         for follow in self.followers:

@@ -1,5 +1,4 @@
-"""The page in a browser that a service shows, by a process of its own: however much that reads and searches, it holds
-up no client."""
+"""The page that a service shows, by a process of its own: however much that searches, it holds up no client."""
 from __future__ import annotations
 
 import asyncio

@@ -1,5 +1,4 @@
-"""When each command was accepted. The journal has no times: of what stood there before the service began none is
-known."""
+"""When each command was accepted: not known of what stood in the journal before the service began."""
 from __future__ import annotations
 
 from datetime import datetime, timezone

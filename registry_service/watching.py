@@ -67,7 +67,6 @@ def name_of(transport: asyncio.BaseTransport) -> str:
 
 
 def command_of(line: bytes) -> dict[str, str]:
-    """The package and the version that a command names, as the log has them; nothing where it can't be read."""
     try:
         found = json.loads(line)
         return {"package": shown(found["name"]), "version": shown(found["version"])}
@@ -147,7 +146,6 @@ class Watch:
         self.note(event="cut-off", client=client.name, why="'it does not read its replies'")
 
     def text(self, gauges: Mapping[str, int | dict[str, int]]) -> bytes:
-        """All counts, with these that are not counted here: numbers, or numbers by labels."""
         lines = []
         for name, about in COUNTS.items():
             gauge = gauges.get(name, 0)

@@ -38,7 +38,6 @@ def run(options: Options, out: Output) -> None:
 
 
 def dropped_lines(journal: Journal) -> list[tuple[int, bytes]]:
-    """What stands from the line at fault on, each with the number of its line, but for an end."""
     rest = list(enumerate(journal.lines[journal.line - 1:], journal.line))
     return [(number, it) for number, it in rest if it and not it.startswith(b"end ")]
 

@@ -35,7 +35,6 @@ def run(options: Options, out: Output) -> int | None:
 
 def faults(lock: Mapping[str, str], needs: Iterable[Sequence[str]], registry: Registry,
            packages: Mapping[str, Sequence[Listed]]) -> Iterator[tuple[str, str]]:
-    """What is not there, yanked or not met, each with the package that is at fault."""
     for name, text in sorted(lock.items()):
         release = registry.find(name, text)
         if release is None:

@@ -56,7 +56,6 @@ def run(options: Options, out: Output) -> int | None:
 
 def outdated(session: Reading, lock: Mapping[str, str], request: Request, reply: Reply,
              packages: Mapping[str, Sequence[Listed]], budget: int) -> list[Row]:
-    """A row for each package that an upgrade would change, or of which there is a newer version."""
     catalog, selected = catalog_of(session.journal()), dict(reply["selected"])
     rows: list[Row] = []
     limited: Request = {"budget": budget}
@@ -85,7 +84,6 @@ def state_of(versions: Iterable[Listed], locked: str) -> str:
 
 
 def newest_of(versions: Iterable[Listed], locked: str) -> str | None:
-    """The newest version that is not yanked; a pre-release only where the locked one is one too."""
     pre_too = precedence(locked)[3] != RELEASE
     fitting = [text for text, yanked in versions if not yanked and (pre_too or precedence(text)[3] == RELEASE)]
     return max(fitting, key=precedence) if fitting else None

@@ -1,5 +1,4 @@
-"""`registry tree`: a selection as a tree of who needs whom, each package with its needs once, as `cargo tree` shows
-it."""
+"""`registry tree`: a selection as a tree, each package with its needs once, as `cargo tree` shows it."""
 from __future__ import annotations
 
 import sys
@@ -41,7 +40,6 @@ def run(options: Options, out: Output) -> int | None:
 
 
 def inverted(below: Mapping[str, Sequence[str]]) -> dict[str, list[str]]:
-    """By package those that need it."""
     above: dict[str, list[str]] = {name: [] for name in below}
     for name, targets in below.items():
         for it in targets:

@@ -1,5 +1,4 @@
-"""`registry why`: in English why a request is refused, or why a version was not selected, from a derivation that is
-checked first."""
+"""`registry why`: why a request is refused, or a version not selected, from a derivation that is checked first."""
 from __future__ import annotations
 
 import sys
@@ -132,6 +131,5 @@ def wanted_of(options: Options, requests: Sequence[Object], replies: Sequence[Ob
 
 
 def is_answered(request: Object, reply: Object) -> bool:
-    """Whether a line is a request to select versions, and its reply a selection or a refusal."""
     is_request = formed({"lock": [], "explain": True, "budget": 0, **request}, RESOLVE)
     return is_request and ("selected" in reply or reply.get("refused") is True)

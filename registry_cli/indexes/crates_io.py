@@ -66,7 +66,6 @@ class CratesIo(Index):
 
     @staticmethod
     def is_needed(dependency: dict[str, Any], version: str, crate: Crate) -> bool:
-        """Whether a dependency is one of a build of the crate without features, from this registry."""
         example = need(crate.name, version, dependency["name"])
         why = ("dev dependencies" if dependency.get("kind") == "dev"
                else "optional dependencies" if dependency.get("optional")

@@ -95,7 +95,6 @@ class Debian(Index):
 
     @staticmethod
     def upstream(fields: Fields) -> str:
-        """The version of a package without Debian's own part."""
         return re.sub(r"^[0-9]+:", "", fields.get("Version", "")).rpartition("-")[0]
 
     def provided(self, fields: Fields, feature: str = "") -> dict[str, str]:

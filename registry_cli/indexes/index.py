@@ -1,8 +1,5 @@
-"""What an index has of a crate, whatever its form is.
-
-A reader answers the names that it has, and by name a crate with its releases in order of publication, with their
-dependencies as they stand there. What it leaves out, or tells otherwise than it stands there, is noted with the crate.
-"""
+"""What an index has of a crate, whatever its form is: its releases in order of publication, with their dependencies as
+they stand there. What is left out, or told otherwise than it stands there, is noted with the crate."""
 from __future__ import annotations
 
 from collections import Counter
@@ -108,7 +105,6 @@ class Index:
 
 
 def need(crate: str, release: str, target: str) -> str:
-    """How an example names a dependency."""
     return f"{crate} {release} needs {target}"
 
 

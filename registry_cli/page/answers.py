@@ -151,7 +151,6 @@ def sentence(telling: Telling, step: Step | None, number: int | None, text: str)
 
 
 def reasons(telling: Telling, step: Step) -> tuple[list[Fact], list[Step]]:
-    """The facts and the told steps that a step rests on; of one that is not told for itself, what that rests on."""
     facts = step.facts()
     steps: list[Step] = []
     for it in step.below():

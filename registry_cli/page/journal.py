@@ -31,7 +31,6 @@ class File:
         return snapshot(self.path)
 
     def mark(self) -> object:
-        """What changes when the journal does."""
         try:
             found = os.stat(self.path)
         except OSError:
@@ -59,8 +58,6 @@ class Service:
 
 
 class View(Catalog):
-    """A journal as it stood at one moment."""
-
     def __init__(self, source: Source) -> None:
         self.path, self.text, self.searches = source.path, source.text(), 0
         self.ranks: dict[str, list[Version]] = {}

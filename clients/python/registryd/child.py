@@ -154,7 +154,6 @@ class Child(Threaded):
         self._stdin.close()
 
     def _hear(self) -> None:
-        """Keeps the end of what the program says on standard error."""
         assert isinstance(self._stderr, io.BufferedReader)
         with self._stderr as stderr:
             while told := stderr.read1(MOST_TOLD):

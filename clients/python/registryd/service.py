@@ -255,7 +255,6 @@ class Connection(Threaded):
 
 
 def connect(address: str, seconds: float) -> socket.socket:
-    """A socket whose calls wait no longer than so many seconds."""
     host, colon, port = address.rpartition(":")
     if colon and "/" not in address and port.isdigit():
         connection = socket.create_connection((host.strip("[]"), int(port)), seconds)
@@ -273,7 +272,6 @@ def connect(address: str, seconds: float) -> socket.socket:
 
 
 def read_until(connection: socket.socket, end: bytes | None, limit: float) -> bytes:
-    """What comes, until it ends so, or ends."""
     pieces = [b"."]
     while pieces[-1] and not (end and pieces[-1].endswith(end)):
         connection.settimeout(max(limit - time.monotonic(), LEAST))

@@ -1,5 +1,4 @@
-"""What people write where JSON wants something else, told with what they probably meant. Each function answers a
-Bad."""
+"""What people write where JSON wants something else, as a Bad with what they probably meant."""
 from __future__ import annotations
 
 import json

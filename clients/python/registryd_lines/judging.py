@@ -1,5 +1,4 @@
-"""What is wrong with a request line, judged from the line alone, as the program judges it before it asks the
-registry."""
+"""What is wrong with a request line, judged as the program judges it before it asks the registry."""
 from __future__ import annotations
 
 import json
@@ -88,7 +87,6 @@ class Judge:
         return [pair.items for pair in self.members[name].items] if name in self.members else []
 
     def premises(self) -> list[Value]:
-        """The requirements of a derivation's premises."""
         lines = self.members["derivation"].items if "derivation" in self.members else []
         causes = [cause.members for line in lines for cause in line.members["causes"].items]
         return [cause["need"] for cause in causes if "need" in cause]
@@ -117,7 +115,6 @@ class Judge:
         return found
 
     def repeated(self, pairs: Iterable[list[Value]], whose: str) -> list[Fault]:
-        """The names that stand in pairs a second time."""
         seen: set[str] = set()
         found = []
         for name, _ in pairs:

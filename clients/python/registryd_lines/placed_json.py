@@ -1,8 +1,5 @@
-"""JSON as the program reads it, which is as the crate `serde_json` does, with the place of each value in its text.
-
-Python's own reader tells no places, and reads what the program does not: NaN, halves of a pair of surrogates, numbers
-out of range, what nests without an end.
-"""
+"""JSON as the program reads it, as the crate `serde_json` does, with the place of each value. Python's own reader tells
+no places, and reads what the program does not: NaN, halves of surrogates, numbers out of range, endless nesting."""
 from __future__ import annotations
 
 import re
@@ -171,7 +168,6 @@ class Reader:
             parts.append(letter)
 
     def letter(self, at: int) -> tuple[str, int]:
-        """The letter of an escape, and where that ends."""
         plain = ESCAPES.get(self.text[at + 1:at + 2])
         if plain:
             return plain, at + 2

@@ -132,7 +132,6 @@ def every(plain: str) -> str | None:
 
 
 def one(part: str) -> str | None:
-    """One comparator in Cargo's words."""
     for abroad in sorted(SAME, key=len, reverse=True):
         if part.startswith(abroad):
             part = SAME[abroad] + part[len(abroad):]
