@@ -5,11 +5,9 @@ import contextlib
 import sys
 import threading
 import time
+from collections.abc import Iterator
 
-from . import TYPE_CHECKING, output
-
-if TYPE_CHECKING:
-    from .shapes import Iterator
+from . import output
 
 WIDE, ERASE = 30, "\r\x1b[K"
 TICK = 1  # seconds

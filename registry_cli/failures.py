@@ -1,10 +1,7 @@
 """Why a subcommand ends without what was asked for: statuses, and exceptions with the line that people read."""
 from __future__ import annotations
 
-from . import TYPE_CHECKING
-
-if TYPE_CHECKING:
-    from .shapes import Mapping
+from collections.abc import Mapping
 
 DONE, REFUSED, USAGE, FAILED = 0, 1, 2, 3
 INTERRUPTED, NO_READER = 130, 141  # as a shell tells of a program that SIGINT or SIGPIPE ended

@@ -53,15 +53,11 @@ def general(words: list[str]) -> int:
     elif words[0:1] in (["--version"], ["-V"], ["--manual"]):
         raise Usage(f"nothing may follow {words[0]}: see {command_line.HELP}")
     else:
-        return overview(words)
+        from . import parsing
+        wants_help = "--help" in words or "-h" in words
+        print(parsing.overview(), end="", file=sys.stdout if wants_help else sys.stderr)
+        return DONE if wants_help else USAGE
     return DONE
-
-
-def overview(words: list[str]) -> int:
-    from . import parsing
-    wants_help = "--help" in words or "-h" in words
-    print(parsing.overview(), end="", file=sys.stdout if wants_help else sys.stderr)
-    return DONE if wants_help else USAGE
 
 
 def guarded(words: list[str]) -> int:

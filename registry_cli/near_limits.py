@@ -2,12 +2,9 @@
 from __future__ import annotations
 
 from collections import Counter
+from collections.abc import Iterable, Iterator
 
-from . import TYPE_CHECKING
 from .limits import MOST_COMMANDS, MOST_PACKAGES, MOST_VERSIONS
-
-if TYPE_CHECKING:
-    from .shapes import Iterable, Iterator
 
 SHORTEST = 100_000  # bytes: no journal that is shorter is near a limit, so most are not looked at
 NAMING = 10  # bytes that a journal has at least for each name: `["a","*"],`

@@ -12,10 +12,11 @@ from .catalog import line_of
 from .check_derivation import ALWAYS, ROOT, read_version, resolve
 from .derivation import Holding
 from .failures import Refused
-from .journal_file import Over, journal_text
+from .journal_file import journal_text
 from .limits import MOST_COMMANDS, MOST_NEEDS, MOST_REQUIREMENT_BYTES
 from .packages import named
 from .renewal import commands_of, releases_of
+from .session import Over
 
 if TYPE_CHECKING:
     from .renewal import Release

@@ -10,12 +10,8 @@ from . import TYPE_CHECKING, bar, output
 from .failures import Failed, Unanswered
 
 if TYPE_CHECKING:
-    from .shapes import Iterator, Protocol, Request, Sequence
-
-    class Searching(Protocol):
-        """What can end its search."""
-
-        def end_search(self) -> None: ...
+    from .session import Session
+    from .shapes import Connected, Iterator, Request, Sequence
 
 MOST_TOLD = 200  # letters of a request
 LEAST = 3  # seconds that an explanation has, however long the search took
@@ -24,7 +20,7 @@ LEAST = 3  # seconds that an explanation has, however long the search took
 class Limit:
     """Ends a search of a session after some seconds, if it has no answer by then; never where these are 0."""
 
-    def __init__(self, session: Searching, seconds: int) -> None:
+    def __init__(self, session: Session | Connected, seconds: int) -> None:
         self.session, self.seconds, self.lock = session, seconds, threading.Lock()
         self.is_answered = self.is_over = False
         self.timer = threading.Timer(seconds, self.end) if seconds else None
@@ -80,7 +76,7 @@ def counted(seconds: int) -> str:
 
 
 @contextlib.contextmanager
-def asking(session: Searching, requests: Sequence[Request]) -> Iterator[None]:
+def asking(session: Session | Connected, requests: Sequence[Request]) -> Iterator[None]:
     begun, is_search = time.monotonic(), all(it.get("op") == "resolve" for it in requests)
     seconds = output.chosen.seconds if is_search else 0
     for it in requests if output.chosen.is_verbose else ():

@@ -16,15 +16,7 @@ from .searching import asking
 
 if TYPE_CHECKING:
     from . import shapes, shell
-    from .shapes import Collection, Connected, IO, Iterator, Options, Protocol, Reply, Request, Sequence, TypeVar
-
-    class HasText(Protocol):
-        """What has a journal's text."""
-
-        @property
-        def text(self) -> bytes: ...
-
-        def journal(self) -> bytes: ...
+    from .shapes import Collection, Connected, IO, Iterator, Options, Reply, Request, Sequence, TypeVar
 
     Self = TypeVar("Self", bound="Session")
 
@@ -207,6 +199,16 @@ class Session:
         how = f"the program {' '.join(program())} ended with status {status} before it had answered"
         return kind(reason(self.said, self.path) or how)
 
+    def journal(self) -> bytes:
+        """The journal's text: what was accepted stands in the file."""
+        return snapshot(self.path)
+
+    def commands(self) -> list[Request]:
+        import json
+
+        from .catalog import commands_in
+        return [json.loads(it) for it in commands_in(self.journal())]
+
     def close(self) -> None:
         with contextlib.suppress(OSError):
             self.process.stdin.close()
@@ -238,21 +240,22 @@ class Session:
         """Tells on standard error where the journal is near a limit."""
 
 
-class Reading(Session):
+class Over(Session):
+    """A session on a journal's text."""
+
+    def __init__(self, path: str, text: bytes) -> None:
+        with shared(text) as file:
+            super().__init__(path, [f"--load=/dev/fd/{file.fileno()}"], [file.fileno()])
+
+
+class Reading(Over):
     def __init__(self, path: str, text: bytes | None = None) -> None:
         self.text = snapshot(path) if text is None else text
-        with shared(self.text) as file:
-            super().__init__(path, [f"--load=/dev/fd/{file.fileno()}"], [file.fileno()])
+        super().__init__(path, self.text)
         self.warnings = list(near_limits.warnings(path, self.text))  # while the program loads it
 
-    def journal(self: HasText) -> bytes:
+    def journal(self) -> bytes:
         return self.text
-
-    def commands(self: HasText) -> list[Request]:
-        import json
-
-        from .catalog import commands_in
-        return [json.loads(it) for it in commands_in(self.journal())]
 
     def finish(self) -> None:
         """Returns once the program has loaded the journal: it finds what is at fault there."""

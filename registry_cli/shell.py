@@ -22,15 +22,10 @@ TICK = 0.5  # seconds
 class Kept(session.Writing):
     """The session that stays open. What a command does not read of its replies is read when that ends."""
     group = 0  # its own, since Ctrl-C at the prompt ends a line and no session
-    journal, commands = session.Reading.journal, session.Reading.commands
 
     def __init__(self, standing: Standing, patience: float) -> None:
         self.standing, self.waiting, self.is_writing = standing, 0, False
         super().__init__(standing.path, patience)
-
-    @property
-    def text(self) -> bytes:
-        return session.snapshot(self.path)
 
     def each(self, requests: Sequence[Request]) -> Iterator[Reply]:
         self.waiting += len(requests)

@@ -19,12 +19,9 @@ import threading
 from . import TYPE_CHECKING
 
 if TYPE_CHECKING:
-    from .shapes import Any, Callable, Collection, IO, Mapping, Protocol, Sequence
+    from _typeshed import HasFileno
 
-    class HasNumber(Protocol):
-        """A file, or a socket."""
-
-        def fileno(self) -> int: ...
+    from .shapes import IO, Any, Callable, Collection, Mapping, Sequence
 
 TUNABLES, HUGE_PAGES = "GLIBC_TUNABLES", "glibc.malloc.hugetlb="
 
@@ -89,7 +86,7 @@ def run(words: Sequence[str], *, input: bytes | None = None, timeout: float | No
     return subprocess.CompletedProcess(words, running.returncode, *said)
 
 
-def when_unread(file: HasNumber, do: Callable[[], object]) -> None:
+def when_unread(file: HasFileno, do: Callable[[], object]) -> None:
     """Once nobody can read any more what is written to a pipe or a socket; of any other file that is never."""
     with contextlib.suppress(OSError, ValueError):
         watched = select.poll()

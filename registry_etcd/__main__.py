@@ -13,7 +13,9 @@ import argparse
 import contextlib
 import os
 import sys
-from typing import TYPE_CHECKING, NoReturn, cast
+from collections.abc import Callable
+from io import BufferedReader
+from typing import NoReturn, cast
 
 from registry_cli import tied
 from registry_cli.limits import MOST_WORKERS
@@ -23,10 +25,6 @@ from registry_etcd.front import Front
 from registry_etcd.gateway import Fault, Gateway, endpoints, tls_context
 from registry_etcd.replica import Replica
 from registry_etcd.snapshot import Snapshots, journal_text, load, read, read_journal, save, try_to_save
-
-if TYPE_CHECKING:
-    from collections.abc import Callable
-    from io import BufferedReader
 
 PROGRAM = os.path.join(os.path.dirname(os.path.dirname(os.path.realpath(__file__))), "registryd")
 MOST_SEAT = 2 ** 32 - 1  # an entry has no higher number

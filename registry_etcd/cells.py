@@ -1,4 +1,4 @@
-"""A row of write-once cells in etcd: the entry at place 1 stands in the first; a cell at place 0 says that there is one.
+"""A row of write-once cells in etcd: the entry at place 1 stands in the first, and place 0 says that there is one.
 
 Two transactions write. `Cells.put` makes cells behind one that is there, where none is; `Snapshots.renew` takes away
 those before one that stays. So the cells that stand are always those from one place to the last, without a hole, and a
@@ -7,15 +7,11 @@ from __future__ import annotations
 
 import json
 from base64 import b64decode
-from typing import TYPE_CHECKING, NamedTuple
+from collections.abc import Iterator, Sequence
+from typing import NamedTuple
 
 from registry_cli.check_derivation import COMMANDS, formed
-from registry_etcd.gateway import Fault, Unanswered, encoded, understood
-
-if TYPE_CHECKING:
-    from collections.abc import Iterator, Sequence
-
-    from registry_etcd.gateway import Gateway, Message
+from registry_etcd.gateway import Fault, Gateway, Message, Unanswered, encoded, understood
 
 FORMS = {form["op"]: form for form in COMMANDS}
 PAGE = 1024  # cells that one read brings at most

@@ -5,19 +5,16 @@ import asyncio
 import hashlib
 import json
 from collections.abc import Callable
-from typing import TYPE_CHECKING
 
 from registry_cli.catalog import line_of
 
 from .child import ACCEPTED, Child
+from .client import Asked
 from .disk import Disk
 from .journal import commands_after
 from .ops import COMMANDS
 from .supervisor import Supervisor
-
-if TYPE_CHECKING:
-    from .client import Asked
-    from .watching import Watch
+from .watching import Watch
 
 
 class Keeper(Supervisor[Child]):

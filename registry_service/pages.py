@@ -14,12 +14,11 @@ from registry_cli.failures import Failed
 from registry_cli.program import TOP
 from registry_cli.tied import Tied
 
+from .service import Service
 from .supervisor import Supervisor
 
 if TYPE_CHECKING:
     from registry_cli.output import Output
-
-    from .service import Service
 
 
 class Shower:

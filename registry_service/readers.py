@@ -18,15 +18,14 @@ from typing import TYPE_CHECKING
 from registry_cli.session import shared
 
 from .child import ACCEPTED, Child
-from .client import UNAVAILABLE
+from .client import UNAVAILABLE, Asked, Client
 from .journal import text_at
+from .keeper import Keeper
 from .supervisor import Supervisor
+from .watching import Watch
 
 if TYPE_CHECKING:
-    from .client import Asked, Client
-    from .keeper import Keeper
-    from .service import Options
-    from .watching import Watch
+    from registry_cli.shapes import Served
 
 WINDOW = 4  # requests that the quick reader is asked at once
 PATIENCE = 0.25  # seconds; a request is slow once a reader has been at it for longer,
@@ -129,7 +128,7 @@ class Reader(Supervisor[Child]):
 class Readers:
     """All of them. Requests wait here, one of each client, until a reader takes them."""
 
-    def __init__(self, path: str, watch: Watch, keeper: Keeper, options: Options) -> None:
+    def __init__(self, path: str, watch: Watch, keeper: Keeper, options: Served) -> None:
         self.path, self.watch, self.keeper, self.limit = path, watch, keeper, options.seconds
         self.words = [f"--workers={options.workers}"]
         if options.budget is not None:

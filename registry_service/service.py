@@ -7,9 +7,10 @@ from collections.abc import Callable, Iterator
 from contextlib import ExitStack
 from functools import partial
 from pathlib import Path
-from typing import TYPE_CHECKING, Protocol, TypeVar
+from socket import socket
+from typing import TYPE_CHECKING, TypeVar
 
-from .client import Client
+from .client import Asked, Client
 from .http import MOST_COPIES, build, page
 from .keeper import Keeper
 from .ops import READS
@@ -19,9 +20,7 @@ from .times import Times
 from .watching import Watch
 
 if TYPE_CHECKING:
-    from socket import socket
-
-    from .client import Asked
+    from registry_cli.shapes import Served
 
 # seconds: for what is under way, then for the journal's end, then for replies to be read
 GRACE, ENDING, READING = 2.0, 1.5, 1.0
@@ -29,26 +28,10 @@ GRACE, ENDING, READING = 2.0, 1.5, 1.0
 Connection = TypeVar("Connection")
 
 
-class Options(Protocol):
-    """The words of `registry serve`."""
-    socket: str | None
-    mode: str
-    group: str | None
-    port: int | None
-    metrics_port: int | None
-    page_port: int | None
-    log: str | None
-    clients: int
-    readers: int
-    workers: int
-    budget: int | None
-    seconds: float
-
-
 class Service:
     """One over a journal, as the words of `registry serve` want it. Its clients call `takes_in` and `ask`."""
 
-    def __init__(self, path: str, options: Options) -> None:
+    def __init__(self, path: str, options: Served) -> None:
         self.path, self.options, self.loop = path, options, asyncio.get_running_loop()
         self.now, self.is_stopping, self.is_over = self.loop.time, False, False
         self.servers: list[asyncio.Server] = []

@@ -3,13 +3,12 @@ from __future__ import annotations
 
 import asyncio
 from collections import deque
-from typing import TYPE_CHECKING, Generic, Protocol, TypeVar
+from typing import Generic, Protocol, TypeVar
 
 from registry_cli.failures import Failed
 
-if TYPE_CHECKING:
-    from .client import Asked
-    from .watching import Watch
+from .client import Asked
+from .watching import Watch
 
 PAUSES = 0.05, 5  # seconds before it is begun again: the first time, and at most
 

@@ -1,6 +1,7 @@
 """What is seen of a service from outside: its log, and its counts in the text form of Prometheus."""
 from __future__ import annotations
 
+import asyncio
 import contextlib
 import json
 import re
@@ -11,16 +12,11 @@ from bisect import bisect_left
 from collections import Counter, defaultdict
 from collections.abc import Iterator, Mapping
 from itertools import accumulate, count
-from typing import TYPE_CHECKING
+from typing import TextIO
 
+from .client import Asked, Client
 from .ops import COMMANDS
 from .times import now
-
-if TYPE_CHECKING:
-    import asyncio
-    from typing import TextIO
-
-    from .client import Asked, Client
 
 Family = tuple[str, str]  # a name with labels
 

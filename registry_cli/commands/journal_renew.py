@@ -5,9 +5,10 @@ from .. import TYPE_CHECKING, near_limits
 from ..bar import Bar
 from ..catalog import line_of
 from ..failures import Failed, Refused
-from ..journal_file import CUT, FAULTY, Over, fault_line, journal_text, read_journal, refuse_existing, write_new
+from ..journal_file import CUT, FAULTY, fault_line, journal_text, read_journal, refuse_existing, write_new
 from ..locks import lock_of
 from ..renewal import Lock, commands_of, needed, newest, releases_of
+from ..session import Over
 
 if TYPE_CHECKING:
     from ..journal_file import Journal

@@ -11,14 +11,9 @@ from ..session import EMPTY, Reading, snapshot
 
 if TYPE_CHECKING:
     from ..catalog import Version
-    from ..shapes import Protocol, Reply, Request
+    from ..shapes import Reply, Request, Union
 
-    class Source(Protocol):
-        path: str
-
-        def text(self) -> bytes: ...
-
-        def mark(self) -> object: ...
+    Source = Union["File", "Service"]
 
 MOST_PAGES = 1_000  # whose last search is known
 

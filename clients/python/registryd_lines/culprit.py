@@ -2,16 +2,13 @@
 from __future__ import annotations
 
 import json
-from typing import TYPE_CHECKING, NamedTuple
+from collections.abc import Iterable
+from typing import NamedTuple
 
 from . import placed_json
 from .fault import Bad, Fault
 from .judging import faults
-
-if TYPE_CHECKING:
-    from collections.abc import Iterable
-
-    from .placed_json import Value
+from .placed_json import Value
 
 BAD_LINE = 19
 # what the registry has found of the version that a line names, by the number of the refusal

@@ -2,10 +2,8 @@
 from __future__ import annotations
 
 import json
-from typing import TYPE_CHECKING, NamedTuple
-
-if TYPE_CHECKING:
-    from collections.abc import Callable
+from collections.abc import Callable
+from typing import NamedTuple
 
 NAMES = {1: "BadName", 2: "BadVersion", 3: "BadRequirement", 4: "RepeatedDependency", 5: "SelfDependency",
          6: "TooManyDependencies", 19: "BadLine"}

@@ -2,18 +2,13 @@
 from __future__ import annotations
 
 import json
-from typing import TYPE_CHECKING
+from collections.abc import Callable, Iterable, Mapping
 
-from .fault import Fault, shown
+from .fault import Edit, Fault, shown
 from .nearest import nearest
+from .placed_json import Held, Value
 
-if TYPE_CHECKING:
-    from collections.abc import Callable, Iterable, Mapping
-
-    from .fault import Edit
-    from .placed_json import Held, Value
-
-    Form = Callable[["Forms", Value, str], None]
+Form = Callable[["Forms", Value, str], None]
 
 BEYOND_WHOLE = 2 ** 32
 KINDS = {str: "a text", bool: "true or false", int: "a number", float: "a number", list: "an array", dict: "an object",

@@ -2,19 +2,15 @@
 from __future__ import annotations
 
 import json
-from typing import TYPE_CHECKING
+from collections.abc import Callable, Iterable
 
 from . import forms, placed_json
 from .fault import Bad, Fault, shown
 from .limits import MOST_LINE_BYTES, MOST_NEEDS
+from .placed_json import Value
 from .request_forms import has_form
 from .requirements import requirement_fault
 from .texts import name_fault, version_fault
-
-if TYPE_CHECKING:
-    from collections.abc import Callable, Iterable
-
-    from .placed_json import Value
 
 LOCK_FILE = {"needs": forms.Forms.needs, "revision": forms.Forms.whole, "selected": forms.Forms.lock}
 

@@ -3,17 +3,14 @@ no places, and reads what the program does not: NaN, halves of surrogates, numbe
 from __future__ import annotations
 
 import re
-from typing import TYPE_CHECKING
+from collections.abc import Callable
+from typing import Union
 
 from . import json_slips
 from .fault import Bad
 from .texts import past
 
-if TYPE_CHECKING:
-    from collections.abc import Callable
-    from typing import Union
-
-    Held = Union[str, bool, int, float, list["Value"], dict[str, "Value"], None]
+Held = Union[str, bool, int, float, list["Value"], dict[str, "Value"], None]
 
 MOST_DEPTH = 127
 SPACE = re.compile(r"[ \t\n\r]*")

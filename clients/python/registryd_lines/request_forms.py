@@ -3,16 +3,12 @@
 from __future__ import annotations
 
 import json
-from typing import TYPE_CHECKING
 
 from .fault import shown
-from .forms import KINDS, OTHER_MEMBERS, Forms, listed
+from .forms import KINDS, OTHER_MEMBERS, Form, Forms, listed
 from .nearest import nearest
+from .placed_json import Value
 from .texts import name_fault
-
-if TYPE_CHECKING:
-    from .forms import Form
-    from .placed_json import Value
 
 CAUSE = 'a cause, as {"line":1} or {"fact":"root"}'
 TERM = 'a term, as ["a",true,[0]]'

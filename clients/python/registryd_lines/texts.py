@@ -3,16 +3,11 @@ from __future__ import annotations
 
 import re
 import unicodedata
+from collections.abc import Callable
 from functools import lru_cache
-from typing import TYPE_CHECKING
 
-from .fault import Bad, shown
+from .fault import Bad, Edit, shown
 from .limits import MOST_NAME_BYTES, MOST_VERSION_BYTES
-
-if TYPE_CHECKING:
-    from collections.abc import Callable
-
-    from .fault import Edit
 
 BEYOND_NUMBERS = 2 ** 64
 NAME = re.compile(r"[a-z][a-z0-9_-]{0,63}")
