@@ -31,9 +31,8 @@ def answered(session: Asking, request: Request) -> Reply:
 
 
 def refused(session: Reading, request: Request, reply: Reply, out: Output) -> int:
-    from .cases import Case
+    from .cases import Case, tell
     from .catalog import catalog_of
-    from .explaining import tell
     from .packages import registry_in
     from .searching import explaining
     out.give(reply, [])

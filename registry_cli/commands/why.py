@@ -5,11 +5,10 @@ import sys
 import time
 from typing import TYPE_CHECKING, cast
 
-from ..cases import Case
+from ..cases import Case, tell
 from ..catalog import catalog_of
 from ..check_derivation import NAME, RESOLVE, demand, formed, read_journal, read_lines, read_version
 from ..check_derivation import session as replayed
-from ..explaining import tell
 from ..failures import Failed, Refused, Usage
 from ..files import write_file
 from ..packages import registry_in

@@ -9,12 +9,11 @@ from registryd_lines.nearest import nearest
 from .. import TYPE_CHECKING
 from ..cases import Case, hints
 from ..check_derivation import NAME, ROOT, precedence, read_requirement
-from ..derivation import Dependency
+from ..derivation import Dependency, Telling
 from ..failures import Failure, Refused, Unanswered
 from ..needs import need_of
 from ..packages import registry_in
 from ..refusals import english, unpublished
-from ..telling import Telling
 
 if TYPE_CHECKING:
     from .journal import Journal, View
