@@ -4,7 +4,7 @@ from __future__ import annotations
 import math
 import re
 
-from . import TYPE_CHECKING, output
+from . import output
 from .check_derivation import PAIRS, Fault, admits, demand, formed, precedence
 from .derivation import FAILED, Derivation, Telling, listed
 from .failures import Refused
@@ -13,12 +13,7 @@ from .locks import changes
 from .packages import is_preferred, named, walk
 from .questions import Question
 from .refusals import english, not_there, unmatched, unpublished
-
-if TYPE_CHECKING:
-    from .shapes import Callable, Collection, Iterator, Mapping, Object, Pairs, RegistryOf, Reply, Request, TextIO
-
-    Ask = Callable[[Request], Reply]
-    Put = Callable[[Question, Request], Reply]
+from .shapes import Ask, Callable, Collection, Iterator, Mapping, Object, Pairs, Put, RegistryOf, Reply, Request, TextIO
 
 MOST_NAMED = 4
 SCREENFUL, LEAST = 40, 10  # lines

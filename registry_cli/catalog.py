@@ -6,14 +6,8 @@ import re
 from collections import namedtuple
 from functools import cached_property, lru_cache
 
-from . import TYPE_CHECKING
 from .failures import Refused
-
-if TYPE_CHECKING:
-    from .check_derivation import Version as Precedence
-    from .shapes import Iterator, Listed, Pairs, Request, Sequence, TypeVar
-
-    Yanked = TypeVar("Yanked", "Version", Listed)  # what begins with a text and whether it is yanked
+from .shapes import Iterator, Listed, Pairs, Precedence, Request, Sequence, Yanked
 
 # Patterns, each compiled where it is used first. Commands as a journal has them, byte for byte: the program loads no
 # others. Those of one package most often follow each other

@@ -3,12 +3,9 @@ from __future__ import annotations
 
 from types import SimpleNamespace
 
-from . import TYPE_CHECKING
 from .failures import Usage
+from .shapes import Options, Sequence, Subcommand, Word
 from .table import COMMON, SUBCOMMANDS, subcommand
-
-if TYPE_CHECKING:
-    from .shapes import Options, Sequence, Subcommand, Word
 
 HELP = "`registry --help`"
 GENERAL = ("--help", "-h", "--version", "-V", "--manual", "--completion", "--complete")

@@ -3,13 +3,10 @@ from __future__ import annotations
 
 import os
 
-from . import TYPE_CHECKING
 from .command_line import split
 from .failures import Failure
+from .shapes import Iterable, Sequence, Subcommand, Takes, Word
 from .table import COMMON, FILE, FOLDER, NEED, PACKAGE, SUBCOMMANDS, VERSION
-
-if TYPE_CHECKING:
-    from .shapes import Iterable, Sequence, Subcommand, Takes, Word
 
 # Each script asks `registry --complete WORD ..`, of the program's words with `registryd` before them: the first line
 # answered says what may stand there, the others are words.

@@ -11,16 +11,12 @@ import threading
 import time
 from collections import deque
 
-from . import TYPE_CHECKING, near_limits
+from . import near_limits
 from .catalog import commands_in, line_of
 from .failures import Failed, Refused
 from .searching import asking
 from .session import EMPTY
-
-if TYPE_CHECKING:
-    from .shapes import Iterator, Reply, Request, Sequence, TypeVar
-
-    Self = TypeVar("Self", bound="Connected")
+from .shapes import Iterator, Reply, Request, Self, Sequence
 
 PATIENCE, PAUSE = 10, 0.2  # seconds in which a service that is begun again is waited for
 SMALL = 32_768  # bytes that a socket takes at once

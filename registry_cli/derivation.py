@@ -4,16 +4,10 @@ from __future__ import annotations
 import json
 import re
 
-from . import TYPE_CHECKING
 from .check_derivation import NEVER, ROOT, Judge, read_version
-
-if TYPE_CHECKING:
-    from .shapes import Cause, Collection, Iterable, Iterator, Mapping, Registry, Request, Row, Sequence, Terms, Union
-
-    Told = tuple[frozenset[int], str]  # what a requirement admits, with its text
-    Node = Union["Fact", "Step"]
-    # a package and some of its versions, and what tells these apart from the same of another who needs something
-    Whose = Union[tuple[str, frozenset[int]], tuple[str, frozenset[int], str]]
+from .shapes import (
+    Cause, Collection, Iterable, Iterator, Mapping, Node, Registry, Request, Row, Sequence, Terms, Told, Whose,
+)
 
 FAILED, NOTHING = "resolving failed", "nothing is said of {}"
 THE_REQUEST = (ROOT, frozenset({0}))

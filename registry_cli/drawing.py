@@ -8,14 +8,9 @@ from __future__ import annotations
 import html
 import textwrap
 
-from . import TYPE_CHECKING
 from .check_derivation import ROOT, demand
 from .derivation import FAILED, Fact, Step, joined
-
-if TYPE_CHECKING:
-    from .shapes import Container, Derivation, Iterable, Mapping, Registry, Request, Sequence
-
-    Needs = Mapping[str, dict[str, str]]  # by package, or the request, what it needs with the requirement
+from .shapes import Container, Derivation, Iterable, Mapping, Needs, Registry, Request, Sequence
 
 MARGIN = 16
 MOST_SHOWN = 48  # lines of a long derivation, those nearest to its end; what they rest on besides stands folded

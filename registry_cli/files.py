@@ -3,11 +3,8 @@ from __future__ import annotations
 
 import os
 
-from . import TYPE_CHECKING
 from .failures import Failed, one_line
-
-if TYPE_CHECKING:
-    from .shapes import Callable, Path
+from .shapes import Callable, Path
 
 MOST_BYTES = 2 ** 28  # of a file that is imported
 

@@ -4,14 +4,11 @@ from __future__ import annotations
 import os
 from collections import namedtuple
 
-from . import TYPE_CHECKING
 from .check_derivation import NAME, PAIRS, formed, passes, precedence, read_requirement, read_version
 from .failures import Failed
 from .files import read_file
 from .limits import MOST_LINE_BYTES, MOST_NEEDS
-
-if TYPE_CHECKING:
-    from .shapes import Callable, Iterable, Mapping, Output, Pairs, Reply, Request, Sequence
+from .shapes import Callable, Iterable, Mapping, Output, Pairs, Reply, Request, Sequence
 
 DEFAULT = "registry.lock"
 MADE = {"needs": PAIRS, "revision": int, "selected": PAIRS}  # the form of a lock file that says what it was made of

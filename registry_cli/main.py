@@ -8,12 +8,10 @@ import os
 import signal
 import sys
 
-from . import TYPE_CHECKING, command_line
+from . import command_line
 from .failures import DONE, FAILED, INTERRUPTED, NO_READER, USAGE, Failed, Failure, Usage, one_line
 from .output import Output, choose, fail
-
-if TYPE_CHECKING:
-    from .shapes import NoReturn
+from .shapes import NoReturn
 
 FULL = (errno.ENOSPC, errno.EDQUOT, errno.EFBIG, errno.EIO)  # errors of a write
 

@@ -1,12 +1,9 @@
 """The manual page registry.1, made of the table."""
 from __future__ import annotations
 
-from . import TYPE_CHECKING
 from .command_line import flags
+from .shapes import Sequence, Subcommand, Word
 from .table import COMMON, SUBCOMMANDS
-
-if TYPE_CHECKING:
-    from .shapes import Sequence, Subcommand, Word
 
 ABOUT = ("`registry` is what people type to a package registry with a version solver. It keeps packages, their "
          "versions and what those need in one file, the journal, and selects versions that fit together. What is "

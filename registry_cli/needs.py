@@ -5,14 +5,11 @@ import contextlib
 import os
 import re
 
-from . import TYPE_CHECKING
 from .check_derivation import NAME, read_requirement
 from .failures import Usage
 from .files import read_file, write_file
 from .locks import DEFAULT, Unread, lock_of
-
-if TYPE_CHECKING:
-    from .shapes import Options, Pairs, Sequence
+from .shapes import Options, Pairs, Sequence
 
 NEED = re.compile(r"\s*([^@\s]*)(?:(?:\s*@\s*|\s+)(.*))?", re.S)  # of a text without white space at its end
 # what other tools have in place of the @: `log==1.0.0`, `log:1.0.0`, `log-1.0.0`, `log/1.0.0`, `log(>=1)`

@@ -6,10 +6,7 @@ import sys
 import time
 from collections import namedtuple
 
-from . import TYPE_CHECKING
-
-if TYPE_CHECKING:
-    from .shapes import Failure, Iterable, Options, TextIO
+from .shapes import Failure, Iterable, Options, TextIO
 
 STYLES = {"bold": "1", "faint": "2", "red": "31", "green": "32", "yellow": "33"}
 # stands for the beginning of a colour's code until a line is printed: no text has it by chance

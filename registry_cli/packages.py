@@ -3,12 +3,9 @@ from __future__ import annotations
 
 from itertools import chain
 
-from . import TYPE_CHECKING
 from .check_derivation import Registry, demand, precedence
 from .failures import Failed
-
-if TYPE_CHECKING:
-    from .shapes import Catalog, Iterable, Mapping, Pairs, Request, Row, Sequence
+from .shapes import Catalog, Iterable, Mapping, Pairs, Request, Row, Sequence
 
 
 def registry_of(commands: Sequence[Request], names: Iterable[str]) -> Registry:

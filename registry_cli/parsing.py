@@ -9,14 +9,10 @@ from functools import partial
 
 from registryd_lines.nearest import nearest
 
-from . import TYPE_CHECKING
-
 from .command_line import flags, number
 from .failures import Usage
+from .shapes import Any, Callable, NoReturn, Sequence, Subcommand, Word
 from .table import COMMON, SUBCOMMANDS
-
-if TYPE_CHECKING:
-    from .shapes import Any, Callable, NoReturn, Sequence, Subcommand, Word
 
 WIDE = 78  # of sentences in the help
 UNKNOWN = 80  # columns of what is no terminal

@@ -7,7 +7,6 @@ are yanked. A derivation that this session tells is told back over the packages 
 """
 from __future__ import annotations
 
-from . import TYPE_CHECKING
 from .catalog import line_of
 from .check_derivation import ALWAYS, ROOT, read_version, resolve
 from .derivation import Holding
@@ -15,12 +14,9 @@ from .failures import Refused
 from .journal_file import journal_text
 from .limits import MOST_COMMANDS, MOST_NEEDS, MOST_REQUIREMENT_BYTES
 from .packages import named
-from .renewal import commands_of, releases_of
+from .renewal import Release, commands_of, releases_of
 from .session import Over
-
-if TYPE_CHECKING:
-    from .renewal import Release
-    from .shapes import Cause, Collection, Iterable, Iterator, Mapping, Pairs, RegistryOf, Reply, Request, Row, Sequence
+from .shapes import Cause, Collection, Iterable, Iterator, Mapping, Pairs, RegistryOf, Reply, Request, Row, Sequence
 
 MADE, VERSION = "made", "1.0.0"  # how the names begin of packages that are made for a question, and the version of each
 

@@ -5,13 +5,10 @@ import json
 
 from registryd_lines.nearest import nearest
 
-from . import TYPE_CHECKING
 from .check_derivation import NAME, precedence, read_version
 from .failures import Refused
 from .limits import MOST_NEEDS, MOST_PACKAGES, MOST_VERSIONS
-
-if TYPE_CHECKING:
-    from .shapes import Asking, Callable, Collection, Iterable, Listed, Mapping, Pairs, Reply, Request, Sequence
+from .shapes import Asking, Callable, Collection, Iterable, Listed, Mapping, Pairs, Reply, Request, Sequence
 
 MOST_TOLD = 3
 SHORTEST = 3  # of names that are shorter each is near to any other

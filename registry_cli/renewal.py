@@ -2,18 +2,14 @@
 need by the program's selection: so whatever is kept can be selected as before, alone and by its lock file."""
 from __future__ import annotations
 
-from typing import TYPE_CHECKING, NamedTuple
+from typing import NamedTuple
 
 from .check_derivation import precedence
 from .limits import MOST_NEEDS, MOST_REQUIREMENT_BYTES
 from .needs import needs_known
-
-if TYPE_CHECKING:
-    from .check_derivation import Version
-    from .shapes import Asking, Bar, Collection, Iterable, Iterator, Mapping, Pairs, Reply, Request
-
-    Key = tuple[str, Version]
-    Releases = Mapping[Key, "Release"]
+from .shapes import (
+    Asking, Bar, Collection, Iterable, Iterator, Key, Mapping, Pairs, Precedence, Releases, Reply, Request,
+)
 
 BUDGET = 10_000  # conflicts of one request
 
@@ -48,7 +44,7 @@ def releases_of(commands: Iterable[Request]) -> dict[Key, Release]:
 
 def newest(releases: Releases, most: int) -> set[Key]:
     """The keys of so many of the highest versions of each package that are not yanked."""
-    by_name: dict[str, list[Version]] = {}
+    by_name: dict[str, list[Precedence]] = {}
     for (name, version), it in releases.items():
         if not it.is_yanked:
             by_name.setdefault(name, []).append(version)

@@ -3,14 +3,11 @@ from __future__ import annotations
 
 import sys
 
-from . import TYPE_CHECKING
 from .check_derivation import read_version
 from .failures import REFUSED
 from .locks import lock_of
 from .needs import needs_given
-
-if TYPE_CHECKING:
-    from .shapes import Asking, Iterator, Listed, Mapping, Options, Output, Pairs, Reading, Reply, Request, Sequence
+from .shapes import Asking, Iterator, Listed, Mapping, Options, Output, Pairs, Reading, Reply, Request, Sequence
 
 
 def request_of(options: Options, lock: Mapping[str, str] | None = None) -> Request:

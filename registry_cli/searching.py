@@ -6,12 +6,9 @@ import signal
 import threading
 import time
 
-from . import TYPE_CHECKING, bar, output
+from . import bar, output
 from .failures import Failed, Unanswered
-
-if TYPE_CHECKING:
-    from .session import Session
-    from .shapes import Connected, Iterator, Request, Sequence
+from .shapes import Connected, Iterator, Request, Sequence, Session
 
 MOST_TOLD = 200  # letters of a request
 LEAST = 3  # seconds that an explanation has, however long the search took

@@ -9,16 +9,11 @@ import sys
 import threading
 import time
 
-from . import TYPE_CHECKING, bar, near_limits, tied
+from . import bar, near_limits, shapes, tied
 from .failures import Failed, InUse, Refused, Usage, one_line
 from .program import program
 from .searching import asking
-
-if TYPE_CHECKING:
-    from . import shapes, shell
-    from .shapes import Collection, Connected, IO, Iterator, Options, Reply, Request, Sequence, TypeVar
-
-    Self = TypeVar("Self", bound="Session")
+from .shapes import IO, Collection, Connected, Iterator, Options, Reply, Request, Self, Sequence, Standing
 
 SECONDS = 10  # that a session waits for another one
 DEFAULT, VARIABLE, SERVICE = "registry.journal", "REGISTRY_JOURNAL", "REGISTRY_CONNECT"
@@ -40,7 +35,7 @@ REASONS = [
 ]
 
 
-standing: shell.Standing | None = None  # what a shell keeps open: see shell.py
+standing: Standing | None = None  # what a shell keeps open: see shell.py
 
 
 def journal_of(options: Options) -> str:

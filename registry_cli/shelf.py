@@ -5,19 +5,12 @@ import bisect
 
 from registryd_lines.nearest import nearest
 
-from . import TYPE_CHECKING
 from .check_derivation import NAME, admits, precedence, read_requirement, read_version
-from .indexes.index import Release, Unusable, folded, need
+from .indexes.index import Crate, Index, Notes, Release, Unusable, folded, need
 from .limits import MOST_COMMANDS, MOST_NEEDS, MOST_PACKAGES, MOST_VERSIONS
 from .needs import needs_of
 from .refusals import misspelled
-
-if TYPE_CHECKING:
-    from .check_derivation import Version
-    from .indexes.index import Crate, Dependency, Index, Notes
-    from .shapes import Callable, Collection, Iterable, Iterator, Mapping, Pairs, Request, Sequence
-
-    Chosen = Mapping[str, Sequence[Release]]  # the releases by crate that are written
+from .shapes import Callable, Chosen, Collection, Dependency, Iterable, Iterator, Pairs, Precedence, Request, Sequence
 
 
 def merged(needs: Iterable[Dependency], spelled: Callable[[str], str]) -> Iterator[tuple[str, str, int]]:
@@ -46,7 +39,7 @@ class Shelf:
 
     def fitting(self, crate: Crate) -> list[Release]:
         """The releases that the rules accept, in order of publication: each precedence once, and as many as may be."""
-        held: dict[Version, Release] = {}
+        held: dict[Precedence, Release] = {}
         for release in crate.releases:
             version = read_version(release.version)
             if version is not None and version in held:
@@ -61,7 +54,7 @@ class Shelf:
             crate.notes.left_out(below, f"{crate.name} {held[version].version}")
         return [it for version, it in held.items() if version in kept]
 
-    def fit(self, crate: Crate, release: Release, version: Version | None) -> Release | None:
+    def fit(self, crate: Crate, release: Release, version: Precedence | None) -> Release | None:
         """A release with each dependency once; none where it has to be left out."""
         example = f"{crate.name} {release.version}"
         needs: list[Dependency] = []

@@ -7,12 +7,10 @@ import shlex
 import signal
 import sys
 
-from . import TYPE_CHECKING, near_limits, output, session
+from . import near_limits, output, session
 from .failures import DONE, INTERRUPTED, USAGE, Refused
 from .main import EndedBySignal, guarded, status_of
-
-if TYPE_CHECKING:
-    from .shapes import Callable, Iterable, Iterator, Reply, Request, Sequence
+from .shapes import Callable, Iterable, Iterator, Reply, Request, Sequence
 
 PROMPT, MOST_KEPT = "registry> ", 1000
 LEAVING = (["exit"], ["quit"])

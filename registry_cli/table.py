@@ -3,13 +3,8 @@ from __future__ import annotations
 
 from collections import namedtuple
 
-from . import TYPE_CHECKING
 from .limits import MOST_VERSIONS
-
-if TYPE_CHECKING:
-    from .shapes import Union
-
-    Takes = Union[str, range, tuple[str, ...]]
+from .shapes import Takes
 
 # what a word or an option takes: for completion, and, where it is numbers or a tuple of words, for what is read
 FILE, FOLDER, PACKAGE, NEED, VERSION, TEXT = "file", "folder", "package", "need", "version", "text"

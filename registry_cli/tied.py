@@ -16,12 +16,7 @@ import signal
 import subprocess
 import threading
 
-from . import TYPE_CHECKING
-
-if TYPE_CHECKING:
-    from _typeshed import HasFileno
-
-    from .shapes import IO, Any, Callable, Collection, Mapping, Sequence
+from .shapes import IO, Any, Callable, Collection, HasFileno, Mapping, Sequence
 
 TUNABLES, HUGE_PAGES = "GLIBC_TUNABLES", "glibc.malloc.hugetlb="
 

@@ -10,13 +10,10 @@ import os
 import time
 from collections import namedtuple
 
-from . import TYPE_CHECKING
 from .command_line import split
 from .failures import InUse, Usage
 from .output import Output
-
-if TYPE_CHECKING:
-    from .shapes import FileIO
+from .shapes import FileIO
 
 LOOK, LONGEST, SILENT = 0.1, 0.5, 1  # seconds: between two looks, at most between two tries, and until it is told
 

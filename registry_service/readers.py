@@ -13,9 +13,9 @@ import select
 from collections import deque
 from collections.abc import Sequence
 from itertools import islice
-from typing import TYPE_CHECKING
 
 from registry_cli.session import shared
+from registry_cli.shapes import Served
 
 from .child import ACCEPTED, Child
 from .client import UNAVAILABLE, Asked, Client
@@ -23,9 +23,6 @@ from .journal import text_at
 from .keeper import Keeper
 from .supervisor import Supervisor
 from .watching import Watch
-
-if TYPE_CHECKING:
-    from registry_cli.shapes import Served
 
 WINDOW = 4  # requests that the quick reader is asked at once
 PATIENCE = 0.25  # seconds; a request is slow once a reader has been at it for longer,

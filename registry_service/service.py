@@ -8,7 +8,9 @@ from contextlib import ExitStack
 from functools import partial
 from pathlib import Path
 from socket import socket
-from typing import TYPE_CHECKING, TypeVar
+from typing import TypeVar
+
+from registry_cli.shapes import Served
 
 from .client import Asked, Client
 from .http import MOST_COPIES, build, page
@@ -18,9 +20,6 @@ from .readers import Readers
 from .sockets import allow_files, bound_file, bound_port, notify
 from .times import Times
 from .watching import Watch
-
-if TYPE_CHECKING:
-    from registry_cli.shapes import Served
 
 # seconds: for what is under way, then for the journal's end, then for replies to be read
 GRACE, ENDING, READING = 2.0, 1.5, 1.0

@@ -5,7 +5,6 @@ import json
 import sys
 from itertools import combinations
 
-from .. import TYPE_CHECKING
 from ..bar import Bar, busy
 from ..failures import REFUSED, Refused, Usage
 from ..files import read_bounded, write_file
@@ -18,12 +17,10 @@ from ..needs import needs_path, write_needs
 from ..output import aside
 from ..refusals import english, listed
 from ..session import reading, writing
+from ..shapes import (
+    Asking, Cause, Chosen, Dependency, Index, Iterable, Iterator, Options, Output, Pairs, Reply, Request, Sequence,
+)
 from ..shelf import Shelf, choose, commands_of, counted, noted, other_spellings, request, roots
-
-if TYPE_CHECKING:
-    from ..indexes.index import Dependency, Index
-    from ..shelf import Chosen
-    from ..shapes import Asking, Cause, Iterable, Iterator, Options, Output, Pairs, Reply, Request, Sequence
 
 MOST_ASKED = 2_000  # of more packages some are asked, at even distances
 BUDGET = 100  # conflicts of each request

@@ -1,32 +1,21 @@
 """`registry journal renew`: a journal with less in it, which selects each lock file as before."""
 from __future__ import annotations
 
-from .. import TYPE_CHECKING, near_limits
+from .. import near_limits
 from ..bar import Bar
 from ..catalog import line_of
 from ..failures import Failed, Refused
-from ..journal_file import CUT, FAULTY, fault_line, journal_text, read_journal, refuse_existing, write_new
+from ..journal_file import CUT, FAULTY, Journal, fault_line, journal_text, read_journal, refuse_existing, write_new
 from ..locks import lock_of
 from ..renewal import Lock, commands_of, needed, newest, releases_of
 from ..session import Over
-
-if TYPE_CHECKING:
-    from ..journal_file import Journal
-    from ..renewal import Key, Releases
-    from ..shapes import Collection, Iterator, Mapping, Output, Protocol, Sequence
-
-    class Options(Protocol):
-        """The words of this subcommand, whose --lock takes many."""
-        old: str
-        new: str
-        lock: list[str] | None
-        newest: int | None
+from ..shapes import Collection, Iterator, Key, Mapping, Output, Releases, RenewOptions, Sequence
 
 NEWEST = 3
 MOST_TOLD = 20
 
 
-def run(options: Options, out: Output) -> None:
+def run(options: RenewOptions, out: Output) -> None:
     old = read_journal(options.old)
     if old.state == FAULTY:
         remedy = f"`registry journal repair {options.old}` keeps what is before it"

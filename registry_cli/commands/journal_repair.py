@@ -5,13 +5,9 @@ import json
 
 from registryd_lines.fault import shown
 
-from .. import TYPE_CHECKING
 from ..failures import Failed, Refused
-from ..journal_file import FAULTY, fault_line, read_journal, refuse_existing, write_new
-
-if TYPE_CHECKING:
-    from ..journal_file import Journal
-    from ..shapes import Iterator, Options, Output, Sequence
+from ..journal_file import FAULTY, Journal, fault_line, read_journal, refuse_existing, write_new
+from ..shapes import Iterator, Options, Output, Sequence
 
 MOST_TOLD, MOST_SHOWN = 10, 200
 

@@ -1,13 +1,10 @@
 """`registry journal verify`: what stands in a journal's file, and what is wrong with it."""
 from __future__ import annotations
 
-from .. import TYPE_CHECKING, near_limits
+from .. import near_limits
 from ..failures import REFUSED
-from ..journal_file import CUT, FAULTY, read_journal
-
-if TYPE_CHECKING:
-    from ..journal_file import Journal
-    from ..shapes import Iterator, Options, Output
+from ..journal_file import CUT, FAULTY, Journal, read_journal
+from ..shapes import Iterator, Options, Output
 
 
 def run(options: Options, out: Output) -> int | None:

@@ -3,13 +3,10 @@ from __future__ import annotations
 
 from collections import namedtuple
 
-from .. import TYPE_CHECKING
+from .. import shapes
 from ..failures import REFUSED
 from ..session import Reading, reading
-
-if TYPE_CHECKING:
-    from .. import shapes
-    from ..shapes import Iterator, Listed, Options, Output, Sequence
+from ..shapes import Iterator, Listed, Options, Output, Sequence
 
 
 class Row(namedtuple("Row", "name newest versions yanked")):

@@ -1,7 +1,6 @@
 """`registry lock check`: whether a lock file holds: each version is there, and the lock has what each needs."""
 from __future__ import annotations
 
-from .. import TYPE_CHECKING
 from ..catalog import catalog_of
 from ..check_derivation import admits, precedence
 from ..failures import REFUSED
@@ -10,9 +9,7 @@ from ..needs import needs_known
 from ..packages import registry_in, walk
 from ..refusals import accepted, listed, not_there
 from ..session import reading
-
-if TYPE_CHECKING:
-    from ..shapes import Iterable, Iterator, Listed, Mapping, Options, Output, Registry, Request, Sequence
+from ..shapes import Iterable, Iterator, Listed, Mapping, Options, Output, Registry, Request, Sequence
 
 
 def run(options: Options, out: Output) -> int | None:

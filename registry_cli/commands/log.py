@@ -7,14 +7,11 @@ import time
 
 from registry_service.times import UNKNOWN, now
 
-from .. import TYPE_CHECKING
 from ..catalog import commands_in
 from ..connected import PATIENCE, page_of_service
 from ..failures import Failed
 from ..session import journal_of, service_of, snapshot
-
-if TYPE_CHECKING:
-    from ..shapes import Options, Output, Request
+from ..shapes import Options, Output, Request
 
 PAUSE = 0.5  # seconds between two looks
 

@@ -3,7 +3,6 @@ from __future__ import annotations
 
 from collections import namedtuple
 
-from .. import TYPE_CHECKING
 from ..cases import Case
 from ..catalog import catalog_of
 from ..check_derivation import RELEASE, admits, precedence
@@ -15,12 +14,9 @@ from ..questions import Question
 from ..refusals import listed
 from ..requests import answered, refused, request_of
 from ..session import reading
-
-if TYPE_CHECKING:
-    from ..shapes import (
-        Derivation, Fact, Iterable, Iterator, Listed, Mapping, Options, Output, Reading, Registry, Reply, Request,
-        Sequence,
-    )
+from ..shapes import (
+    Derivation, Fact, Iterable, Iterator, Listed, Mapping, Options, Output, Reading, Registry, Reply, Request, Sequence,
+)
 
 BUDGET = 10_000  # conflicts of each question what holds a version back
 MOST_TOLD = 2

@@ -3,7 +3,6 @@ from __future__ import annotations
 
 import os
 
-from .. import TYPE_CHECKING
 from ..failures import Refused
 from ..files import write_file
 from ..locks import DEFAULT, changed, changes, counted, lock_of, lock_text, renewed
@@ -11,9 +10,7 @@ from ..needs import needs_path, write_needs
 from ..output import say
 from ..requests import answered, lock_notes, refused, request_of
 from ..session import reading
-
-if TYPE_CHECKING:
-    from ..shapes import Lock, Mapping, Options, Output, Reply, Request
+from ..shapes import Lock, Mapping, Options, Output, Reply, Request
 
 
 def run(options: Options, out: Output) -> int | None:

@@ -6,12 +6,9 @@ import asyncio
 from registry_service.pages import show
 from registry_service.service import Service
 
-from .. import TYPE_CHECKING
 from ..failures import FAILED, Usage
 from ..session import journal_of
-
-if TYPE_CHECKING:
-    from ..shapes import Output, Served
+from ..shapes import Output, Served
 
 
 def run(options: Served, out: Output) -> int | None:

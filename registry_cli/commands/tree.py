@@ -5,14 +5,11 @@ import sys
 
 from registryd_lines.nearest import nearest
 
-from .. import TYPE_CHECKING
 from ..failures import Refused
 from ..needs import need_of
 from ..requests import answered, needs_of, refused, request_of
 from ..session import reading
-
-if TYPE_CHECKING:
-    from ..shapes import Callable, Iterator, Mapping, Options, Output, Sequence
+from ..shapes import Callable, Iterator, Mapping, Options, Output, Sequence
 
 UTF8 = {"tee": "├── ", "corner": "└── ", "down": "│   ", "none": "    "}
 ASCII = {"tee": "|-- ", "corner": "`-- ", "down": "|   ", "none": "    "}

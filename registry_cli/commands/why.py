@@ -3,7 +3,7 @@ from __future__ import annotations
 
 import sys
 import time
-from typing import TYPE_CHECKING, cast
+from typing import cast
 
 from ..cases import Case, tell
 from ..catalog import catalog_of
@@ -15,17 +15,10 @@ from ..packages import registry_in
 from ..requests import request_of
 from ..searching import explaining
 from ..session import Session, reading
-
-if TYPE_CHECKING:
-    from .. import shapes
-    from ..shapes import Callable, Iterable, Iterator, Object, Output, Protocol, Registry, Reply, Request, Sequence
-
-    class Options(shapes.Options, Protocol):
-        """The words of this subcommand; `version` is what --not takes, a name and a version."""
-        version: list[str] | None
+from ..shapes import Callable, Iterable, Iterator, Object, Output, Registry, Reply, Request, Sequence, WhyOptions
 
 
-def run(options: Options, out: Output) -> None:
+def run(options: WhyOptions, out: Output) -> None:
     """Tells what is asked, and draws it; of several requests the last one."""
     check(options)
     picture: Callable[[bool], str] | None = None
@@ -51,7 +44,7 @@ def run(options: Options, out: Output) -> None:
         raise Refused(str(fault)) from None
 
 
-def check(options: Options) -> None:
+def check(options: WhyOptions) -> None:
     if options.asked and (options.need or options.lock or options.budget is not None):
         raise Usage("--asked reads requests from a file: it can't be used with needs, --lock or --budget")
     if options.asked and options.connect:
@@ -64,7 +57,7 @@ def check(options: Options) -> None:
         raise Usage(f"these are not a package name and a version: {' '.join(options.version)!r}")
 
 
-def of_journal(options: Options) -> Iterator[Case]:
+def of_journal(options: WhyOptions) -> Iterator[Case]:
     request = request_of(options)
     with reading(options) as session:
         names = set(catalog_of(session.journal()).lines)
@@ -78,7 +71,7 @@ def of_journal(options: Options) -> Iterator[Case]:
                    put=lambda question, it: question.put(session.commands(), it | budget, registry))
 
 
-def of_files(options: Options, asked: str) -> Iterator[Case]:
+def of_files(options: WhyOptions, asked: str) -> Iterator[Case]:
     lines = lines_of(asked)
     requests, replies = (lines, lines_of(options.told)) if options.told else (lines[::2], lines[1::2])
     counts = f"{len(requests)} request lines and {len(replies)} replies"
@@ -114,7 +107,7 @@ def asked_anew(commands: Iterable[Request], request: Request) -> Reply:
         return session.ask(*commands, request)[-1]
 
 
-def wanted_of(options: Options, requests: Sequence[Object], replies: Sequence[Object]) -> set[int]:
+def wanted_of(options: WhyOptions, requests: Sequence[Object], replies: Sequence[Object]) -> set[int]:
     """The numbers of the requests that are told: one that is named, or the last one, or each that was refused."""
     lines = enumerate(zip(requests, replies), 1)
     answered = [number for number, (request, reply) in lines if is_answered(request, reply)]

@@ -1,12 +1,9 @@
 """`registry yank` and `registry unyank`: whether a version may be selected anew."""
 from __future__ import annotations
 
-from .. import TYPE_CHECKING
 from ..refusals import accepted
 from ..session import writing
-
-if TYPE_CHECKING:
-    from ..shapes import Named, Output, Request
+from ..shapes import Named, Output, Request
 
 
 def run(options: Named, out: Output) -> None:

@@ -6,16 +6,10 @@ import tomllib
 from collections import defaultdict
 from pathlib import Path
 
-from .. import TYPE_CHECKING
 from ..check_derivation import read_version
 from ..files import read_plain
+from ..shapes import Dependency, Iterator, Pairs, Table
 from .index import Crate, Index, Release, Unusable, by_precedence, need
-
-if TYPE_CHECKING:
-    from .index import Dependency
-    from ..shapes import Any, Iterator, Pairs
-
-    Table = dict[str, Any]  # of TOML
 
 KINDS = ("dependencies", "build-dependencies", "build_dependencies", "dev-dependencies", "dev_dependencies")
 

@@ -5,12 +5,9 @@ import json
 import os
 from pathlib import Path
 
-from .. import TYPE_CHECKING
 from ..files import read_plain
+from ..shapes import Any
 from .index import Crate, Index, Release, Unusable, need
-
-if TYPE_CHECKING:
-    from ..shapes import Any
 
 
 class CratesIo(Index):

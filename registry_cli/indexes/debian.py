@@ -7,16 +7,8 @@ import re
 import subprocess
 from collections import defaultdict
 
-from .. import TYPE_CHECKING
+from ..shapes import Dependency, Fields, Interval, Numbers, Sequence
 from .index import Crate, Index, Release, Unusable, by_precedence, need
-
-if TYPE_CHECKING:
-    from .index import Dependency
-    from ..shapes import Sequence
-
-    Numbers = tuple[float, ...]  # three whole ones, or BEYOND
-    Interval = tuple[Numbers, Numbers]
-    Fields = dict[str, str]  # of a package
 
 # an interval of Debian's: from a version on, below another; versions are triples of numbers
 NOTHING: Numbers = (0, 0, 0)

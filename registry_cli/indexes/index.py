@@ -5,14 +5,9 @@ from __future__ import annotations
 from collections import Counter
 from dataclasses import dataclass, field
 
-from .. import TYPE_CHECKING
 from ..check_derivation import read_version
 from ..failures import Refused
-
-if TYPE_CHECKING:
-    from ..shapes import Iterable, Pairs
-
-    Dependency = tuple[str, str]  # a crate's name and a requirement, or a version
+from ..shapes import Dependency, Iterable, Pairs
 
 
 class Unusable(Refused):

@@ -6,7 +6,6 @@ import re
 
 from registryd_lines.nearest import nearest
 
-from .. import TYPE_CHECKING
 from ..cases import Case, hints
 from ..check_derivation import NAME, ROOT, precedence, read_requirement
 from ..derivation import Dependency, Telling
@@ -14,14 +13,8 @@ from ..failures import Failure, Refused, Unanswered
 from ..needs import need_of
 from ..packages import registry_in
 from ..refusals import english, unpublished
-
-if TYPE_CHECKING:
-    from .journal import Journal, View
-    from ..shapes import Callable, Derivation, Fact, Iterator, Mapping, Pairs, Reply, Request, Sequence, Step, Union
-
-    Query = Mapping[str, Sequence[str]]
-    Field = list[Union[int, str]]  # the number of a need, and its part that is at fault
-    Value = dict[str, object]  # an object for JSON
+from ..shapes import Callable, Derivation, Fact, Field, Iterator, Mapping, Pairs, Query, Reply, Request, Step, Value
+from .journal import Journal, View
 
 MOST_FOUND = 100  # names that are told of a search at a time
 END = "\x7f"  # comes behind each letter of a name

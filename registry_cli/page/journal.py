@@ -4,16 +4,10 @@ from __future__ import annotations
 import os
 import threading
 
-from .. import TYPE_CHECKING
-from ..catalog import Catalog
+from ..catalog import Catalog, Version
 from ..failures import Failed, Unanswered
 from ..session import EMPTY, Reading, snapshot
-
-if TYPE_CHECKING:
-    from ..catalog import Version
-    from ..shapes import Reply, Request, Union
-
-    Source = Union["File", "Service"]
+from ..shapes import Reply, Request
 
 MOST_PAGES = 1_000  # whose last search is known
 
@@ -53,7 +47,7 @@ class Service:
 
 
 class View(Catalog):
-    def __init__(self, source: Source) -> None:
+    def __init__(self, source: File | Service) -> None:
         self.path, self.text, self.searches = source.path, source.text(), 0
         self.ranks: dict[str, list[Version]] = {}
         session = Reading(self.path, self.text)
@@ -99,7 +93,7 @@ class Search:
 class Journal:
     """What stands in a journal's file, for a server whose threads ask at once."""
 
-    def __init__(self, source: Source, seconds: float) -> None:
+    def __init__(self, source: File | Service, seconds: float) -> None:
         self.source, self.path, self.seconds = source, source.path, seconds
         # of what is held; of loading; of searching, one at a time
         self.lock, self.loading, self.turn = threading.Lock(), threading.Lock(), threading.Lock()

@@ -9,14 +9,10 @@ from http import HTTPStatus
 from http.server import BaseHTTPRequestHandler, ThreadingHTTPServer
 from urllib.parse import parse_qs, urlsplit
 
-from .. import TYPE_CHECKING
 from ..failures import Failed, Failure, Refused, Unanswered, one_line
+from ..shapes import Any, Callable, Query, Value
 from .answers import ANSWERS, AtFault, NotThere
-
-if TYPE_CHECKING:
-    from .answers import Query, Value
-    from .journal import Journal
-    from ..shapes import Any, Callable
+from .journal import Journal
 
 HOST = "127.0.0.1"
 FILES = os.path.join(os.path.dirname(os.path.abspath(__file__)), "files")
