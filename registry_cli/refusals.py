@@ -47,7 +47,7 @@ def not_there(request: Request, packages: Mapping[str, Sequence[Listed]]) -> str
 def misspelled(request: Request, number: int) -> str:
     """The first name, version or requirement that is at fault, and what was probably meant."""
     from registryd_lines.judging import faults
-    from registryd_lines.requirements import requirement_fault
+    from registryd_lines.texts import requirement_fault
     name, version = request.get("name", ""), request.get("version", "")
     if number == 1 and read_version(name) and NAME.fullmatch(version):
         return f"{name} is a version, not a package; did you mean {version} {name}?"

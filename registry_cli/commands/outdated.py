@@ -9,10 +9,10 @@ from ..check_derivation import RELEASE, admits, precedence
 from ..derivation import Dependency
 from ..failures import REFUSED, Refused
 from ..locks import DEFAULT, changes, lock_of
+from ..needs import answered, refused, request_of
 from ..packages import registry_in
 from ..questions import Question
 from ..refusals import listed
-from ..requests import answered, refused, request_of
 from ..session import reading
 from ..shapes import (
     Derivation, Fact, Iterable, Iterator, Listed, Mapping, Options, Output, Reading, Registry, Reply, Request, Sequence,

@@ -6,9 +6,8 @@ import os
 from ..failures import Refused
 from ..files import write_file
 from ..locks import DEFAULT, changed, changes, counted, lock_of, lock_text, renewed
-from ..needs import needs_path, write_needs
+from ..needs import answered, lock_notes, needs_path, refused, request_of, write_needs
 from ..output import say
-from ..requests import answered, lock_notes, refused, request_of
 from ..session import reading
 from ..shapes import Lock, Mapping, Options, Output, Reply, Request
 

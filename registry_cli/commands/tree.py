@@ -6,8 +6,7 @@ import sys
 from registryd_lines.nearest import nearest
 
 from ..failures import Refused
-from ..needs import need_of
-from ..requests import answered, needs_of, refused, request_of
+from ..needs import answered, need_of, needs_selected, refused, request_of
 from ..session import reading
 from ..shapes import Callable, Iterator, Mapping, Options, Output, Sequence
 
@@ -22,7 +21,7 @@ def run(options: Options, out: Output) -> int | None:
         if "selected" not in reply:
             return refused(session, request, reply, out)
         selected = dict(reply["selected"])
-        needs = needs_of(session, selected)
+        needs = needs_selected(session, selected)
     below = {name: sorted(dict(needs[name])) for name in selected}
     roots = [name for name, _ in request["needs"]]
     if options.invert:

@@ -6,9 +6,8 @@ from registryd_lines.nearest import nearest
 from ..failures import REFUSED, Refused
 from ..files import write_file
 from ..locks import DEFAULT, changed, changes, coloured, counted, lock_of, lock_text, renewed
-from ..needs import need_of
+from ..needs import answered, lock_notes, need_of, refused, request_of
 from ..refusals import listed
-from ..requests import answered, lock_notes, refused, request_of
 from ..session import reading
 from ..shapes import Collection, Lock, Mapping, Output, UpgradeOptions
 

@@ -11,8 +11,8 @@ from ..check_derivation import NAME, RESOLVE, demand, formed, read_journal, read
 from ..check_derivation import session as replayed
 from ..failures import Failed, Refused, Usage
 from ..files import write_file
+from ..needs import request_of
 from ..packages import registry_in
-from ..requests import request_of
 from ..searching import explaining
 from ..session import Session, reading
 from ..shapes import Callable, Iterable, Iterator, Object, Output, Registry, Reply, Request, Sequence, WhyOptions

@@ -5,17 +5,16 @@ import json
 from collections.abc import Callable, Iterable
 from typing import NamedTuple
 
-from . import forms, placed_json
+from . import placed_json
 from .fault import Bad, Fault, shown
 from .limits import MOST_LINE_BYTES, MOST_NEEDS
 from .placed_json import Value
-from .request_forms import has_form
-from .requirements import requirement_fault
-from .texts import name_fault, version_fault
+from .request_forms import Forms, has_form
+from .texts import name_fault, requirement_fault, version_fault
 
 # what the registry has found of the version that a line names, by the number of the refusal
 FOUND = {7: "is published already", 11: "is not published", 12: "is yanked already", 13: "is not yanked"}
-LOCK_FILE = {"needs": forms.Forms.needs, "revision": forms.Forms.whole, "selected": forms.Forms.lock}
+LOCK_FILE = {"needs": Forms.needs, "revision": Forms.whole, "selected": Forms.lock}
 
 
 def faults(line: bytes) -> list[Fault]:
@@ -28,7 +27,7 @@ def lock_faults(text: bytes) -> list[Fault]:
     if text.strip()[:1].isascii() and not text.strip().startswith((b"[", b"{")):
         return [Fault(19, 0, 'a lock list is an array of pairs of a name and a version, as [["b","1.0.0"]]')]
 
-    def members(noted: forms.Forms, value: Value) -> dict[str, Value] | None:
+    def members(noted: Forms, value: Value) -> dict[str, Value] | None:
         if isinstance(value.held, dict) and not LOCK_FILE.keys().isdisjoint(value.held):
             if not noted.object(value, "a lock file", LOCK_FILE):
                 return None
@@ -38,7 +37,7 @@ def lock_faults(text: bytes) -> list[Fault]:
     return found_in(text, "file", members)
 
 
-def found_in(line: bytes, whose: str, members: Callable[[forms.Forms, Value], dict[str, Value] | None]) -> list[Fault]:
+def found_in(line: bytes, whose: str, members: Callable[[Forms, Value], dict[str, Value] | None]) -> list[Fault]:
     """What is no JSON, what has not its form, else the faults of the texts of its members."""
     if len(line) > MOST_LINE_BYTES:
         return [Fault(19, 0, f"the {whose} has more than {MOST_LINE_BYTES:,} bytes")]
@@ -50,7 +49,7 @@ def found_in(line: bytes, whose: str, members: Callable[[forms.Forms, Value], di
         value = placed_json.read(text, whose)
     except Bad as bad:
         return [Fault(19, bad.place, bad.what, bad.edit)]
-    noted = forms.Forms(text)
+    noted = Forms(text)
     held = members(noted, value)
     return in_order(noted.faults if held is None else Judge(text, held).faults())
 
