@@ -1,16 +1,13 @@
-"""What standard error says while something takes long: what it is, and how far; nothing where that is no terminal, or
---quiet is given."""
+"""What standard error says while something takes long, where that is a terminal and --quiet is not given."""
 from __future__ import annotations
 
 import contextlib
 import sys
 import threading
 import time
+from collections.abc import Iterator
 
-from . import TYPE_CHECKING, output
-
-if TYPE_CHECKING:
-    from collections.abc import Iterator
+from . import output
 
 WIDE, ERASE = 30, "\r\x1b[K"
 TICK = 1  # seconds
@@ -40,8 +37,7 @@ def busy(what: str) -> Iterator[None]:
 
 @contextlib.contextmanager
 def timed(what: str, limit: int = 0) -> Iterator[None]:
-    """The same, for how many seconds, once it has taken one; and the seconds that it may take, if those are limited.
-    What is a part of something that is timed says nothing."""
+    """The same with its seconds, once it has taken one, and their limit. A part of what is timed says nothing."""
     global is_timed
     if is_timed or not is_seen():
         yield
@@ -66,8 +62,6 @@ def timed(what: str, limit: int = 0) -> Iterator[None]:
 
 
 class Bar:
-    """A bar of so many steps."""
-
     def __init__(self, what: str, whole: int) -> None:
         self.what, self.whole, self.done, self.shown = what, whole, 0, -1
         self.is_seen = is_seen() and whole > 0
@@ -83,6 +77,5 @@ class Bar:
             show(f"\r{self.what} [{'#' * full}{'.' * (WIDE - full)}] {percent}%, {self.done} of {self.whole}")
 
     def end(self) -> None:
-        """Takes the line away."""
         if self.is_seen:
             show(ERASE)

@@ -1,31 +1,30 @@
 """A request with its answer, told in English: what was selected, why nothing was, or why one version was not."""
 from __future__ import annotations
 
-from . import TYPE_CHECKING
+import math
+import re
+
+from . import output
 from .check_derivation import PAIRS, Fault, admits, demand, formed, precedence
-from .derivation import FAILED, Derivation, listed
+from .derivation import FAILED, Derivation, Telling, listed
 from .failures import Refused
 from .limits import MOST_LOCK_LINES
 from .locks import changes
-from .packages import named
+from .packages import is_preferred, named, walk
 from .questions import Question
 from .refusals import english, not_there, unmatched, unpublished
-from .telling import Telling
-from .walk import is_preferred, walk
-
-if TYPE_CHECKING:
-    from collections.abc import Callable, Collection, Iterator, Mapping
-
-    from .shapes import Object, Pairs, RegistryOf, Reply, Request
-
-    Ask = Callable[[Request], Reply]
-    Put = Callable[[Question, Request], Reply]
+from .shapes import Ask, Callable, Collection, Iterator, Mapping, Object, Pairs, Put, RegistryOf, Reply, Request, TextIO
 
 MOST_NAMED = 4
+SCREENFUL, LEAST = 40, 10  # lines
+# words of the sentences, which may be names of packages too: as such they are not marked
+WORDS = frozenset("a and any are asked at because both but can come comes depends every failed for forbidden has in "
+                  "incompatible is it lock matches meets met must no not nothing of on or published refused request "
+                  "require requires resolving revision said selected selection that the there thus together version "
+                  "versions which with yanked".split())
 
 
 def told_needs(needs: Pairs) -> str:
-    """What is asked for, in short."""
     told = [f"{name} {requirement}" for name, requirement in needs]
     more = [f"{len(told) - MOST_NAMED} more"] if len(told) > MOST_NAMED else []
     return ", ".join([*told[:MOST_NAMED], *more]) or "no needs"
@@ -45,8 +44,7 @@ def hints(derivation: Derivation) -> Iterator[str]:
 
 
 class Case:
-    """A request with its reply. `registry` answers the registry in Python, with some packages; `ask` asks the program
-    again, and `put` puts a question that no request asks; `names` are the published packages."""
+    """`registry` answers one in Python with some packages, `ask` asks the program, `put` puts what no request asks."""
 
     def __init__(self, request: Object, reply: Reply | None, registry: RegistryOf, ask: Ask | None,
                  names: Collection[str] = (), told: str = "", put: Put | None = None) -> None:
@@ -54,19 +52,17 @@ class Case:
         self.registry, self.ask, self.put, self.names, self.told = registry, ask, put, names, told
         self.reply = reply or self.again()
         self.refuted: Derivation | None = None  # the derivation that was told
-        # once it was told: what draws it, of a derivation at most so many lines unfolded
-        self.draw: Callable[[float], str] | None = None
+        # once it was told: what draws it, a derivation with all of its lines or folded
+        self.draw: Callable[[bool], str] | None = None
 
     @property
     def revision(self) -> int:
         return self.reply["revision"]
 
     def title(self) -> str:
-        """What was asked, in short."""
         return self.told + told_needs(self.request["needs"])
 
     def again(self, question: Question | None = None, lock: Pairs | None = None) -> Reply:
-        """The reply to this request, or to a question, perhaps with another lock."""
         explained: Request = {"explain": True}
         request = (question.request if question else self.request) | explained
         if lock is not None:
@@ -82,19 +78,17 @@ class Case:
         return reply
 
     def answer(self) -> list[str]:
-        """What was asked and how it was answered, as lines."""
         if "selected" in self.reply:
             return self.selection(f"{self.title()}: selected at revision {self.revision}", self.selected())
         return self.refusal(f"{self.title()}: refused at revision {self.revision}", self.request, self.reply)
 
     def selected(self) -> dict[str, str]:
-        """The versions by package that the reply has."""
         has_form = formed(self.reply["selected"], PAIRS)
         demand(has_form, f"{self.title()}: the reply has no selection of the right form", Refused)
         return dict(self.reply["selected"])
 
     def selection(self, title: str, selected: Mapping[str, str]) -> list[str]:
-        def draw(_: float) -> str:
+        def draw(_: bool) -> str:
             from .drawing import draw_selection  # which is loaded only where a picture is wanted
             return draw_selection(self.registry(selected), self.request, selected, title)
 
@@ -103,7 +97,6 @@ class Case:
 
     def derivation(self, title: str, request: Request, reply: Reply, asked: tuple[str, str] | None = None,
                    held: Mapping[str, str] | None = None) -> Derivation:
-        """The derivation of a refusal, which follows."""
         rows = reply.get("derivation") or self.again().get("derivation")
         if not rows:
             raise Refused(f"{title}: asked again, the program answers a selection")
@@ -114,15 +107,14 @@ class Case:
 
     def refusal(self, title: str, request: Request, reply: Reply, asked: tuple[str, str] | None = None,
                 failed: str = FAILED) -> list[str]:
-        """The English of a refusal, and what there is instead of what it misses."""
         return self.english(self.derivation(title, request, reply, asked), title, failed)
 
     def english(self, derivation: Derivation, title: str, failed: str) -> list[str]:
         self.refuted = derivation
 
-        def draw(most: float) -> str:
-            from .drawing import draw_derivation
-            return draw_derivation(derivation, title, failed, most)
+        def draw(is_unfolded: bool) -> str:
+            from .drawing import MOST_SHOWN, draw_derivation
+            return draw_derivation(derivation, title, failed, math.inf if is_unfolded else MOST_SHOWN)
 
         self.draw = draw
         return [title, *("  " + it if it else "" for it in (*Telling(derivation, failed).lines(), *hints(derivation)))]
@@ -146,7 +138,6 @@ class Case:
         return self.with_version(name, release.text, selected)
 
     def with_version(self, name: str, text: str, selected: Mapping[str, str]) -> list[str]:
-        """What is answered where just this version is asked for."""
         question, title = Question(self.request, {name: text}), self.title()
         failed = f"{name} {text} can't be selected"
         reply = self.again(question)
@@ -164,8 +155,7 @@ class Case:
         return [*lines, *further]
 
     def before(self, name: str, text: str, selected: Mapping[str, str]) -> dict[str, str]:
-        """The selected versions that come before a package in the walk, where this version would be preferred to the
-        selected one."""
+        """What comes before a package in the walk, where this version would be preferred to the selected one."""
         if name not in selected or not is_preferred(text, selected[name], dict(self.request["lock"]).get(name)):
             return {}
         order = walk(self.request["needs"], selected, self.registry(selected))
@@ -193,7 +183,6 @@ class Case:
         return dict(reply["selected"])
 
     def instead(self, name: str, text: str, selected: Mapping[str, str]) -> str:
-        """What was selected instead of a version, and how it differs."""
         if name not in selected:
             return f"no version of {name} was selected, since nothing that was selected needs one"
         chosen, locked = selected[name], dict(self.request["lock"]).get(name)
@@ -201,3 +190,54 @@ class Case:
         is_locked = locked and precedence(locked) == one
         how = "which the lock names" if is_locked else "which is " + ("higher" if one > other else "lower")
         return f"{name} {chosen} was selected, {how}"
+
+
+# ---- as people read it: in colour where there is some, and of a long one no more than fits on a screen
+
+def tell(case: Case, lines: list[str], stream: TextIO, is_full: bool, remedy: str) -> None:
+    """Prints an explanation; unless all of it is wanted, no more than a screenful, and how to see the rest."""
+    kept = lines if is_full else shortened(lines, *room(stream))
+    output.write(stream, coloured(kept, case, stream))
+    if kept is not lines:
+        output.Output.note(f"{len(lines) - len(kept) + 1:,} of {len(lines):,} lines are left out: {remedy}")
+
+
+def room(stream: TextIO) -> tuple[int, int]:
+    """How many lines an explanation may have on a stream, and how wide they are; 0 where that is not known."""
+    columns, lines = output.size(stream)
+    return max(LEAST, min(SCREENFUL, lines - 4)) if lines else SCREENFUL, columns
+
+
+def shortened(lines: list[str], most: int, columns: int) -> list[str]:
+    """The first line, and as many of the last ones as there is room for: a refusal ends with what it comes to."""
+    def rows(line: str) -> int:
+        return output.wrapped(output.visible(line), columns).count("\n") + 1
+    if sum(map(rows, lines)) <= most:
+        return lines
+    left, at = most - rows(lines[0]) - 1, len(lines)
+    while at > 1 and rows(lines[at - 1]) <= left:
+        at -= 1
+        left -= rows(lines[at])
+    kept = lines[at:]
+    return [lines[0], "  ..", *kept[kept[:1] == [""]:]]
+
+
+def coloured(lines: list[str], case: Case, stream: TextIO) -> list[str]:
+    """The lines of a refusal with the names of packages in bold, and in red what nothing published meets."""
+    derivation = case.refuted
+    if derivation is None or not output.is_coloured(stream):
+        return lines
+    unmet = []
+    for name, requirement in derivation.lacking():
+        package, matched = re.escape(name), f'"?{re.escape(requirement)}"?'
+        unmet += [f"{package} {matched}", f"[Nn]o version of {package} (?:matches {matched}|is published)"]
+    concluded = (name for step in derivation.reached() for name in step.terms if name)
+    names = {*dict(case.request["needs"]), *concluded} - WORDS
+    red = f"(?P<red>refused(?= at revision)|{'|'.join(unmet) or '(?!)'})"
+    bold = "|".join(map(re.escape, names)) or "(?!)"
+    found = re.compile(rf"(?<![\w.+-])(?:{red}|{bold})(?![\w.-]*\w)")
+
+    def styled(match: re.Match[str]) -> str:
+        return output.style(match[0], stream, *(("bold", "red") if match["red"] else ("bold",)))
+
+    return [found.sub(styled, line) for line in lines]

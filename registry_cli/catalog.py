@@ -1,5 +1,4 @@
-"""What a registry has: each package with its versions, what these need, and who needs it. Of a journal's text only what
-is asked for is read: all of 49,152 commands take more than a second."""
+"""What a registry has. Of a journal's text only what is asked for is read: 49,152 commands take more than a second."""
 from __future__ import annotations
 
 import json
@@ -7,17 +6,8 @@ import re
 from collections import namedtuple
 from functools import cached_property, lru_cache
 
-from . import TYPE_CHECKING
 from .failures import Refused
-
-if TYPE_CHECKING:
-    from collections.abc import Iterator, Sequence
-    from typing import TypeVar
-
-    from .check_derivation import Version as Precedence
-    from .shapes import Listed, Pairs, Request
-
-    Yanked = TypeVar("Yanked", "Version", Listed)  # what begins with a text and whether it is yanked
+from .shapes import Iterator, Listed, Pairs, Precedence, Request, Sequence, Yanked
 
 # Patterns, each compiled where it is used first. Commands as a journal has them, byte for byte: the program loads no
 # others. Those of one package most often follow each other
@@ -33,14 +23,12 @@ MENTION = rb'(?:\{"name":|\[)"([^"]+)",'  # a command's package, or what it need
 
 
 class Version(namedtuple("Version", "text is_yanked needing", defaults=[b"[]"])):
-    """A published version, and what it needs as JSON."""
     text: str
     is_yanked: bool
     needing: bytes
 
     @property
     def needs(self) -> Pairs:
-        """Pairs of a name and a requirement."""
         pairs: Pairs = json.loads(self.needing)
         return pairs
 
@@ -60,21 +48,18 @@ def precedence(text: str) -> Precedence:
 
 @lru_cache(maxsize=None)
 def rank(text: str) -> tuple[bool, Precedence]:
-    """A published version as what is taken where nothing else is asked for: a pre-release only where there is nothing
-    else."""
+    """By what is taken where nothing else is asked for: a pre-release only where there is nothing else."""
     numbers = precedence(text)
     return numbers[3] == RELEASE, numbers
 
 
 def newest(versions: Sequence[Yanked]) -> Yanked:
-    """The version that is taken where nothing else is asked for, of those that begin with a text and whether it is
-    yanked: such a one only where there is nothing else."""
+    """The one that is taken where nothing else is asked for: a yanked one only where there is nothing else."""
     return max([it for it in versions if not it[1]] or versions, key=lambda it: rank(it[0]))
 
 
 def pieces(text: bytes) -> Iterator[bytes]:
-    """A journal's text in parts of whole lines. What is found in one takes the memory of what was found in the one
-    before, so a search in each takes a fifth less than one in the whole."""
+    """Parts of whole lines: a search in each takes a fifth less time than one in the whole, since memory is reused."""
     at = 0
     while at < len(text):
         end = text.find(b"\n", at + PIECE) + 1 or len(text)
@@ -83,14 +68,12 @@ def pieces(text: bytes) -> Iterator[bytes]:
 
 
 def commands_in(text: bytes) -> list[bytes]:
-    """The lines of the commands that a whole journal has."""
     lines = text.split(b"\n")[1:-2]
     return [it for it in lines if not it.endswith(LEARN)] if LEARN in text else lines
 
 
 def listed_in(text: bytes) -> dict[str, list[Listed]]:
-    """By package the versions that commands of a journal publish, in order of publication, as pairs of a text and
-    whether it is yanked."""
+    """By package its versions in order of publication, each with whether it is yanked."""
     listed: dict[str, list[Listed]] = {}
     yanked: dict[tuple[str, Precedence], bool] = {}
     for piece in pieces(text):
@@ -125,7 +108,6 @@ class Catalog:
         return sum(it.count(b"\n") for it in self.lines.values())
 
     def published(self, name: str) -> list[Version]:
-        """The versions of a package in order of publication."""
         lines = self.lines.get(name, b"")
         versions = [Version(text.decode(), False, needs) for needs, text in re.findall(PUBLICATION, lines)]
         yanked = {precedence(text.decode()): op == b"yank" for op, text in re.findall(YANK, lines)}
@@ -139,14 +121,12 @@ class Catalog:
         return sorted(self.published(name), key=lambda it: precedence(it.text), reverse=True)
 
     def versions(self, name: str) -> list[Version]:
-        """The versions of a package, the newest first."""
         if name not in self.lines:
             from .refusals import unpublished
             raise Refused(unpublished(name, self.lines))
         return self.ranked(name)
 
     def version(self, name: str, text: str) -> Version:
-        """The version of a package that equals this one."""
         from .check_derivation import read_version
         versions = self.versions(name)
         found = next((it for it in versions if precedence(it.text) == read_version(text)), None)
@@ -170,19 +150,16 @@ class Catalog:
                 yield other, version.decode(), requirement.decode()
 
     def commands(self, name: str) -> Iterator[Request]:
-        """The commands of a package."""
         return map(json.loads, self.lines.get(name, b"").splitlines())
 
     @cached_property
     def mentioned(self) -> list[str]:
-        """The names of all packages, also of those that are only needed, in the order in which they are first
-        mentioned."""
+        """All names, also of what is only needed, in the order in which they are first mentioned."""
         # what was learnt names no others
         return [it.decode(errors="replace") for it in dict.fromkeys(re.findall(MENTION, self.text))]
 
     @cached_property
     def listed(self) -> dict[str, list[Listed]]:
-        """By package its versions in order of publication, as pairs of a text and whether it is yanked."""
         return listed_in(self.text)
 
 

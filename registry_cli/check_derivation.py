@@ -59,8 +59,7 @@ def demand(holds: object, why: str, kind: type[Exception] = Fault) -> None:
 
 
 def formed(value: Any, form: object) -> bool:
-    """Whether a JSON value has a form: members, the form of each item or of all, rising ordinals, a number, a text, a
-    type."""
+    """Whether a JSON value has a form: members, each item or all, rising ordinals, a number, a text, a type."""
     if form is ORDINALS:
         return formed(value, [int]) and all(low < high for low, high in zip(value, value[1:]))
     if form is int:
@@ -78,8 +77,7 @@ def formed(value: Any, form: object) -> bool:
 
 @lru_cache(maxsize=None)
 def read_comparator(text: str) -> tuple[str, Version] | None:
-    """An operator, then one to three numbers, then a pre-release, whose numbers stand below its words; none for another
-    text."""
+    """An operator, one to three numbers and a pre-release, whose numbers stand below its words; else none."""
     found = re.fullmatch(COMPARATOR, text) if len(text) <= MOST_BYTES else None
     numbers: list[Any] = [int(it) for it in found.groups()[1:4] if it] if found else []
     if not found or max(numbers) >= 2 ** 64:
@@ -98,7 +96,6 @@ def read_version(text: str) -> Version | None:
 
 
 def precedence(text: str) -> Version:
-    """The same of a text that is known to be a version."""
     version = read_version(text)
     if version is None:
         raise ValueError(f"{text} is no version")
@@ -125,8 +122,7 @@ def passes(sign: str, bound: Version, version: Version) -> bool:
 
 
 def admits(requirement: str, version: Version) -> bool:
-    """Whether a version meets a requirement; a pre-release wants a comparator with a pre-release of the same
-    numbers."""
+    """Whether it meets a requirement; a pre-release wants a comparator with a pre-release of the same numbers."""
     comparators = read_requirement(requirement)
     if comparators is None:
         raise ValueError(f"{requirement} is no requirement")
@@ -142,8 +138,6 @@ def readable(names: Iterable[str], needs: Sequence[Sequence[str]], versions: Ite
 
 
 class Release:
-    """A version that was published."""
-
     def __init__(self, text: str, version: Version, needs: dict[str, str]) -> None:
         self.text, self.version, self.needs, self.yanked = text, version, needs, False
 
@@ -158,7 +152,6 @@ class Registry:
         self.revision = 0
 
     def matching(self, name: str, requirement: str) -> frozenset[int]:
-        """The ordinals of the published versions of a package that meet a requirement."""
         held = self.releases.get(name, [])
         return frozenset(place for place, it in enumerate(held) if admits(requirement, it.version))
 
@@ -206,8 +199,7 @@ def resolve(first: Terms, second: Terms, pivot: str) -> Terms:
 
 
 class Judge:
-    """Judges one derivation. An incompatibility is a term by package: they may not all hold, and a missing one always
-    does."""
+    """An incompatibility is a term by package: they may not all hold, and a missing one always does."""
 
     def __init__(self, registry: Registry, request: Object) -> None:
         lock = dict(request["lock"]) if formed(request, RESOLVE) else None
@@ -249,7 +241,6 @@ class Judge:
         return {name: (True, frozenset(versions)), target: (False, frozenset(within))}
 
     def cause(self, cause: Object) -> Terms:
-        """What a cause says, by the method of its kind."""
         kind = next((it for it in CAUSES if formed(cause, CAUSES[it])), "")
         demand(kind, "a cause of no known form")
         terms: Terms = getattr(self, kind)(**{member: value for member, value in cause.items() if member != "fact"})
@@ -299,7 +290,6 @@ def read_lines(path: str) -> list[dict[str, Any]]:
 
 
 def read_journal(path: str) -> list[dict[str, Any]]:
-    """The commands of a journal file."""
     lines = bytes_of(path).split(b"\n")
     end = [b"end %d" % (len(lines) - 3), b""]
     head = lines[0] in (b"registry-journal 1", b"registry-journal 2")

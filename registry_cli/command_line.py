@@ -3,15 +3,9 @@ from __future__ import annotations
 
 from types import SimpleNamespace
 
-from . import TYPE_CHECKING
 from .failures import Usage
+from .shapes import Options, Sequence, Subcommand, Word
 from .table import COMMON, SUBCOMMANDS, subcommand
-
-if TYPE_CHECKING:
-    from collections.abc import Sequence
-
-    from .shapes import Options
-    from .table import Subcommand, Word
 
 HELP = "`registry --help`"
 GENERAL = ("--help", "-h", "--version", "-V", "--manual", "--completion", "--complete")
@@ -45,12 +39,10 @@ def split(words: list[str]) -> tuple[Subcommand | None, list[str]]:
 
 
 def flags(word: Word) -> list[str]:
-    """The ways to write an option: in short, and whole."""
     return [it for it in (word.short, word.flag) if it]
 
 
 def unknown(first: str, following: Sequence[str]) -> str:
-    """What is said of words that name no subcommand."""
     below = [it.name.split(" ")[1] for it in SUBCOMMANDS if it.name.startswith(first + " ")]
     if below:
         some = "one of " * (len(below) > 1) + ", ".join(below)
@@ -81,8 +73,7 @@ def parted(found: Subcommand, words: Sequence[str]) -> list[str]:
 
 
 def read(found: Subcommand, words: Sequence[str]) -> Options:
-    """The values of a subcommand's words by their names. To load argparse takes longer than most subcommands: it reads
-    only what asks for help, is written in a rare way, or is wrong."""
+    """To load argparse takes longer than most subcommands: it reads help, rare ways to write, and what is wrong."""
     try:
         return SimpleNamespace(**plain(found, words))
     except ValueError:
@@ -125,7 +116,6 @@ def value(word: Word, texts: list[str]) -> bool | int | str | list[str]:
 
 
 def number(text: str, numbers: range) -> int:
-    """A text as one of these numbers."""
     if not (text.isascii() and text.isdigit() and int(text) in numbers):
         raise ValueError(text)
     return int(text)

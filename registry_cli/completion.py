@@ -1,62 +1,16 @@
-"""Completion: what may stand at the end of a command line of `registry`, by the table, or of `registryd`, and the few
-lines of each shell that ask for it."""
+"""What may stand at the end of a command line of `registry`, by the table, or of `registryd`."""
 from __future__ import annotations
 
-from . import TYPE_CHECKING
+import os
+
 from .command_line import split
 from .failures import Failure
+from .shapes import Iterable, Sequence, Subcommand, Takes, Word
 from .table import COMMON, FILE, FOLDER, NEED, PACKAGE, SUBCOMMANDS, VERSION
 
-if TYPE_CHECKING:
-    from collections.abc import Iterable, Sequence
-
-    from .table import Subcommand, Takes, Word
-
-# Each asks `registry --complete WORD ..`, of the program's words with `registryd` before them: the first line answered
-# says what may stand there, the others are words.
-SCRIPTS = {
-    "bash": r"""_registry() {
-    local current=${COMP_WORDS[COMP_CWORD]} told program=
-    case $1 in *registryd) program=registryd ;; esac
-    mapfile -t told < <("${1%d}" --complete $program "${COMP_WORDS[@]:1:COMP_CWORD}" 2>/dev/null)
-    case ${told[0]} in
-        file) compopt -o filenames; mapfile -t COMPREPLY < <(compgen -f -- "${current#=}") ;;
-        folder) compopt -o filenames; mapfile -t COMPREPLY < <(compgen -d -- "${current#=}") ;;
-        *) COMPREPLY=("${told[@]:1}") ;;
-    esac
-}
-complete -F _registry registry registryd
-""",
-    "zsh": r"""#compdef registry registryd
-_registry() {
-    local -a told program
-    [[ $words[1] != *registryd ]] || program=(registryd)
-    told=("${(@f)$(${words[1]%d} --complete $program "${(@)words[2,CURRENT]}" 2>/dev/null)}")
-    case $told[1] in
-        file) _files ;;
-        folder) _files -/ ;;
-        *) compadd -- "${(@)told[2,-1]}" ;;
-    esac
-}
-if [ "$funcstack[1]" = _registry ]; then _registry "$@"; else compdef _registry registry registryd; fi
-""",
-    "fish": r"""function __registry_told
-    set -l words (commandline -opc) (commandline -ct)
-    set -l program (string match -r 'registryd$' -- $words[1])
-    set -l told (string replace -r 'd$' '' -- $words[1])
-    set told ($told --complete $program $words[2..-1] 2>/dev/null)
-    switch "$told[1]"
-        case file
-            __fish_complete_path (commandline -ct)
-        case folder
-            __fish_complete_directories (commandline -ct)
-        case '*'
-            printf '%s\n' $told[2..-1]
-    end
-end
-complete -c registry -c registryd -f -a '(__registry_told)'
-""",
-}
+# Each script asks `registry --complete WORD ..`, of the program's words with `registryd` before them: the first line
+# answered says what may stand there, the others are words.
+SHELLS = ("bash", "zsh", "fish")
 # the words of the program: the options of each command with what they take
 PROGRAM: dict[str, dict[str, Takes | None]] = {
     "serve": {"--workers": tuple("1 2 4 8 16 32 64".split()), "--journal": FILE, "--load": FILE, "--save": FILE,
@@ -68,9 +22,15 @@ GENERAL = ("--help", "--version")
 UNBOUNDED = 10 ** 9  # words that an option takes
 
 
+def script(shell: str) -> str:
+    """The lines of a shell that ask for completions."""
+    path = os.path.join(os.path.dirname(os.path.abspath(__file__)), "completions", f"registry.{shell}")
+    with open(path, encoding="utf-8") as file:
+        return file.read()
+
+
 def complete(words: Sequence[str]) -> list[str]:
-    """The lines that are answered for words of which the last one is being typed: `file`, `folder` or `words`, then
-    words."""
+    """`file`, `folder`, or `words` and some of these, for words of which the last one is being typed."""
     is_program = words[:1] == ["registryd"]
     *before, current = words[is_program:] or [""]
     before = [it for it in before if it != "="]  # bash takes the sign of --option=VALUE for a word
@@ -81,7 +41,6 @@ def complete(words: Sequence[str]) -> list[str]:
 
 
 def of_program(before: list[str], current: str) -> tuple[str, Sequence[str]]:
-    """What may stand behind some words of the program, and those words that are known."""
     of = next((it for it in before if it in PROGRAM), None)
     if of is None:
         return "words", [*PROGRAM, *GENERAL]
@@ -94,7 +53,6 @@ def of_program(before: list[str], current: str) -> tuple[str, Sequence[str]]:
 
 
 def candidates(before: list[str], current: str) -> tuple[str, Sequence[str]]:
-    """What may stand behind some words, and those words that are known."""
     before = before[before[:1] == ["help"]:]
     valued = {it.flag: it for it in COMMON if it.names}
     if before and before[-1] in valued:
@@ -118,8 +76,7 @@ def flags(words: Iterable[Word]) -> list[str]:
 
 
 def awaited(subcommand: Subcommand, rest: Sequence[str]) -> tuple[Takes | None, str | None]:
-    """What the word or option of a subcommand takes whose value comes next, nothing where no more is taken; and the
-    word before it."""
+    """What the word or option takes whose value comes next, nothing where no more is taken; and the word before it."""
     options = {it.flag: it for it in (*subcommand.words, *COMMON) if it.flag}
     places, taken, left = [it for it in subcommand.words if not it.flag], 0, 0
     open_option: Word | None = None
@@ -141,7 +98,6 @@ def awaited(subcommand: Subcommand, rest: Sequence[str]) -> tuple[Takes | None, 
 
 
 def of_kind(takes: Takes, before: Sequence[str], last: str | None) -> tuple[str, Sequence[str]]:
-    """What is offered for a kind of value."""
     if isinstance(takes, tuple):
         return "words", takes
     if takes in (FILE, FOLDER):
@@ -152,8 +108,7 @@ def of_kind(takes: Takes, before: Sequence[str], last: str | None) -> tuple[str,
 
 
 def published(before: Sequence[str], name: str | None) -> list[str]:
-    """The names of the packages, or the versions of one; nothing where no journal can be read and no service
-    answers."""
+    """The packages, or the versions of one; nothing where no journal can be read and no service answers."""
     from types import SimpleNamespace
 
     from .refusals import listed

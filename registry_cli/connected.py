@@ -11,19 +11,12 @@ import threading
 import time
 from collections import deque
 
-from . import TYPE_CHECKING, near_limits
+from . import near_limits
 from .catalog import commands_in, line_of
 from .failures import Failed, Refused
 from .searching import asking
 from .session import EMPTY
-
-if TYPE_CHECKING:
-    from collections.abc import Iterator, Sequence
-    from typing import TypeVar
-
-    from .shapes import Reply, Request
-
-    Self = TypeVar("Self", bound="Connected")
+from .shapes import Iterator, Reply, Request, Self, Sequence
 
 PATIENCE, PAUSE = 10, 0.2  # seconds in which a service that is begun again is waited for
 SMALL = 32_768  # bytes that a socket takes at once
@@ -36,7 +29,6 @@ class Lost(Exception):
 
 
 def connect(address: str) -> socket.socket:
-    """A connection to a service, whose address is the path of its socket, or HOST:PORT."""
     host, colon, port = address.rpartition(":")
     connection = None
     try:
@@ -55,7 +47,6 @@ def connect(address: str) -> socket.socket:
 
 
 def page_of_service(address: str, target: str) -> bytes:
-    """What a service answers over HTTP."""
     with connect(address) as connection:
         connection.sendall(f"GET {target} HTTP/1.0\r\n\r\n".encode())
         with connection.makefile("rb") as answer:
@@ -86,7 +77,6 @@ class Connected:
         self.replies = self.connection.makefile("rb")
 
     def ask(self, *requests: Request) -> list[Reply]:
-        """The replies to requests, together."""
         with asking(self, requests):
             return list(self.each(requests))
 
@@ -97,7 +87,6 @@ class Connected:
             self.connection.shutdown(socket.SHUT_RDWR)
 
     def each(self, requests: Sequence[Request]) -> Iterator[Reply]:
-        """The replies to requests, each as it comes."""
         waiting, limit = deque(requests), time.monotonic() + PATIENCE
         done: dict[bytes, int] = {}
         while waiting:
@@ -139,8 +128,7 @@ class Connected:
             connection.sendall(text)
 
     def again(self, limit: float) -> dict[bytes, int]:
-        """Connects again. Answers the commands that were accepted since the last reply, each with its revision: one
-        that waits for its reply and is among them was carried out."""
+        """Connects again. Answers what was accepted since the last reply, by its line: so that was carried out."""
         while True:
             self.leave()
             time.sleep(PAUSE)
@@ -154,12 +142,10 @@ class Connected:
                     raise Failed(f"the service at {self.path} broke off before it had answered, and {what}") from fault
 
     def journal(self) -> bytes:
-        """The journal's text at the revision of the last reply."""
         self.text = journal_of_service(self.path, self.revision)
         return self.text
 
     def commands(self) -> list[Request]:
-        """The accepted commands, in order, at the same revision."""
         return [json.loads(it) for it in commands_in(self.journal())]
 
     def close(self) -> None:

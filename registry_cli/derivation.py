@@ -1,27 +1,13 @@
-"""What a derivation says, step by step in English: which versions a set is, what a fact says, and what a step
-concludes.
-
-A range of versions means those that are published, by precedence.
-"""
+"""What a derivation says, step by step. A range of versions means those that are published, by precedence."""
 from __future__ import annotations
 
 import json
 import re
 
-from . import TYPE_CHECKING
 from .check_derivation import NEVER, ROOT, Judge, read_version
-
-if TYPE_CHECKING:
-    from collections.abc import Collection, Iterable, Mapping, Sequence
-    from typing import Union
-
-    from .check_derivation import Registry, Terms
-    from .shapes import Cause, Request, Row
-
-    Told = tuple[frozenset[int], str]  # what a requirement admits, with its text
-    Node = Union["Fact", "Step"]
-    # a package and some of its versions, and what tells these apart from the same of another who needs something
-    Whose = Union[tuple[str, frozenset[int]], tuple[str, frozenset[int], str]]
+from .shapes import (
+    Cause, Collection, Iterable, Iterator, Mapping, Node, Registry, Request, Row, Sequence, Terms, Told, Whose,
+)
 
 FAILED, NOTHING = "resolving failed", "nothing is said of {}"
 THE_REQUEST = (ROOT, frozenset({0}))
@@ -43,7 +29,6 @@ class Versions:
         self.admitted: dict[tuple[str, str], frozenset[int]] = {}
 
     def order(self, name: str) -> list[int]:
-        """The ordinals of the published versions, by precedence."""
         if name not in self.orders:
             held = self.registry.releases.get(name, [])
             self.orders[name] = sorted(range(len(held)), key=lambda ordinal: held[ordinal].version)
@@ -58,8 +43,7 @@ class Versions:
         return self.registry.releases[name][ordinal].text
 
     def spans(self, name: str, ordinals: Collection[int]) -> list[list[str]]:
-        """The runs of neighbours in a set, the lowest first, each by its bounds: one version, or from one to below
-        another."""
+        """Runs of neighbours in a set, the lowest first: each one version, or from one to below another."""
         found: list[list[str]] = []
         first, order = None, self.order(name)
         for place, ordinal in enumerate([*order, None]):
@@ -94,14 +78,12 @@ class Versions:
 
 
 class Fact:
-    """A cause that follows from nothing else. Of two that are told together the one of the lower rank comes first.
-    `held` is a package where it says which version of that the selection has."""
+    """What follows from nothing else; the lower rank is told first. It says what is selected of a package `held`."""
     rank = 2
     held: str | None = None
 
     def __init__(self, said: str, lacking: tuple[str, str] | None = None, names: tuple[str, ...] = ()) -> None:
-        """`lacking` is a package and a requirement where it says that nothing published meets it. `names` are the
-        packages it is of."""
+        """`lacking` is a package and a requirement that nothing meets; `names` are the packages it is of."""
         self.said, self.lacking, self.names = said, lacking, names
         self.admitted: dict[str, Told] = {}
 
@@ -112,8 +94,7 @@ class Question(Fact):
 
 
 class Dependency(Fact):
-    """Versions of a package, or the request, depend on a package; `within` has the versions that they leave to choose
-    from."""
+    """Versions of a package, or the request, depend on a package; `within` are the versions that they leave of it."""
     rank, verb = 0, "depends on"
 
     def __init__(self, subject: str, whose: Whose, target: str, requirement: str,
@@ -127,15 +108,13 @@ class Dependency(Fact):
         self.unmet = Fact(f"no version of {target} matches {quoted}", (target, requirement), (target,))
 
     def leads_to(self, other: Dependency, steps: Iterable[Step]) -> bool:
-        """Whether all versions that are left here have the other dependency, and what further versions have it is not
-        asked."""
+        """Whether all versions that are left here have the other dependency, and no step asks which further ones do."""
         if other.whose[0] != self.target or not self.within <= other.whose[1]:
             return False
         return self.within == other.whose[1] or all(self.target not in step.terms for step in steps)
 
 
 class Held(Dependency):
-    """The selection has this version."""
     rank, verb = 1, "has"
 
     def __init__(self, target: str, text: str, requirement: str, within: frozenset[int]) -> None:
@@ -183,7 +162,6 @@ class Step:
                                           if terms.get(name) == (False, told[0])}
 
     def below(self) -> list[Step]:
-        """The causes that are steps."""
         return [it for it in self.causes if isinstance(it, Step)]
 
     def facts(self) -> list[Fact]:
@@ -195,9 +173,8 @@ class Derivation:
 
     def __init__(self, registry: Registry, request: Request, rows: Sequence[Row], asked: tuple[str, str] | None = None,
                  names: Iterable[str] = (), held: Mapping[str, str] | None = None) -> None:
-        """A need on the package `asked`, of a name and a version, is the question itself and no need of the request;
-        one on a package that is `held`, in a version, says what the selection has. `names` are the published packages,
-        where the registry has not all of them."""
+        """`asked`, a name and a version, is the question itself and no need; `held` is what the selection has, and
+        `names` are the published packages, where the registry has not all of them."""
         usual: Request = {"lock": [], "explain": True, "budget": 0}
         self.request = usual | request
         self.held = held or {}
@@ -218,8 +195,7 @@ class Derivation:
         self.last = self.steps[-1]
 
     def needless(self, causes: list[Node]) -> Step | None:
-        """The step that a line repeats, where that says that the request can't be met and the line only adds that it
-        must be."""
+        """The step that a line repeats, where the line only adds that the request must be met."""
         for root, other in (causes, causes[::-1]):
             if root is self.facts.get("root") and isinstance(other, Step) and other.terms == NEVER:
                 return other
@@ -279,8 +255,7 @@ class Derivation:
         return self.depended(fact, target, need, left, {name: (True, subject)})
 
     def depended(self, fact: Fact, target: str, requirement: str, within: frozenset[int], terms: Terms) -> Node:
-        """A dependency. Where it leaves no version to choose from, that is told as a fact of its own, and what both
-        mean as a step."""
+        """Where it leaves no version to choose from, that is told as a fact of its own, and both as a step."""
         if not within:
             unpublished = Fact(f"no version of {target} is published", (target, requirement), (target,))
             has_versions = self.registry.releases.get(target)
@@ -303,7 +278,6 @@ class Derivation:
         return Fact(" and ".join(told) or NOTHING.format(name), names=(name,))
 
     def conclusion(self, step: Step) -> str:
-        """What a step says."""
         terms = {name: term for name, term in step.terms.items() if name != ROOT}
         inside = [(name, ordinals) for name, (is_in, ordinals) in terms.items() if is_in]
         # a term that is true of no choice makes a line that says nothing
@@ -323,6 +297,98 @@ class Derivation:
                 f"{listed(named, 'and')} are incompatible"][min(len(named), 3) - 1]
 
     def wanted(self, step: Step, name: str, ordinals: frozenset[int]) -> str:
-        """What a step asks for of a package: by the requirement that admits just that, if one did, else by its
-        versions."""
+        """By the requirement that admits just what a step asks for, if one did, else by its versions."""
         return step.admitted[name][1] if name in step.admitted else self.versions.some(name, ordinals)
+
+
+# ---- the English of a refusal
+#
+# The English of a refusal, from its derivation, put in order and joined as Dart pub's doc/solver.md tells, "Error
+# Reporting": a step that is cited more than once has a number, two steps of a chain may share a sentence, and of two
+# branches the one that takes more is told first. Each sentence speaks of the selections that meet the request.
+
+class Telling:
+    """The sentences of a derivation, each with its number or none; an empty one is a break before another branch.
+    `places` has where each step is told, and `leading` the steps that are told for its sake right before it."""
+
+    def __init__(self, derivation: Derivation, failed: str = FAILED) -> None:
+        self.derivation, self.failed = derivation, failed
+        self.sentences: list[tuple[int | None, str]] = []
+        self.numbers: dict[Step, int] = {}
+        self.cited: dict[Step, int] = {}
+        self.places: dict[Step, int] = {}
+        self.leading: dict[Step, list[Step]] = {}
+        for step in derivation.reached():
+            for it in step.below():
+                self.cited[it] = self.cited.get(it, 0) + 1
+        self.tell(derivation.last)
+
+    def tell(self, last: Step) -> None:
+        """A step hands over those that are to be told first: this needs no stack of calls."""
+        open_steps = [(last, self.steps_of(last))]
+        while open_steps:
+            step, rest = open_steps[-1]
+            first = next(rest, None)
+            if first is None:
+                open_steps.pop()
+            else:
+                self.leading.setdefault(step, []).append(first)
+                open_steps.append((first, self.steps_of(first)))
+
+    def steps_of(self, step: Step) -> Iterator[Step]:
+        return (self.of_facts, self.of_one, self.of_two)[len(step.below())](step)
+
+    def of_facts(self, step: Step) -> Iterator[Step]:
+        first, second = step.facts()
+        self.write(step, f"Because {joined(first, second, [step])}")
+        yield from ()
+
+    def of_one(self, step: Step) -> Iterator[Step]:
+        (other,), (fact,) = step.below(), step.facts()
+        if other in self.numbers:
+            self.write(step, f"Because {fact.said} and {self.citing(other)}")
+        elif self.may_share(other):
+            (prior,), (before,) = other.below(), other.facts()
+            yield prior
+            self.write(step, f"And because {joined(before, fact, [prior, step])}")
+        else:
+            yield other
+            self.write(step, f"And because {fact.said}")
+
+    def of_two(self, step: Step) -> Iterator[Step]:
+        first, second = sorted(step.below(), key=lambda it: (it in self.numbers, not it.below()))
+        if first in self.numbers:
+            self.write(step, f"Because {self.citing(first)} and {self.citing(second)}")
+            return
+        if second not in self.numbers and second.below():
+            # the first branch is cited from behind the second one
+            self.cited[first] += 1
+        yield first
+        if second in self.numbers:
+            self.write(step, f"And because {self.citing(second)}")
+            return
+        if second.below():
+            self.sentences.append((None, ""))
+        yield second
+        self.write(step, f"And because {self.citing(first)}" if second.below() else "Thus")
+
+    def may_share(self, step: Step) -> bool:
+        """Whether a step may be left unsaid: it is cited once, and rests on a fact and on what is told right before."""
+        return self.cited[step] == 1 and len(step.below()) == 1 and step.below()[0] not in self.numbers
+
+    def citing(self, step: Step) -> str:
+        return f"{self.derivation.conclusion(step)} ({self.numbers[step]})"
+
+    def write(self, step: Step, because: str) -> None:
+        is_last = step is self.derivation.last
+        if self.cited.get(step, 0) > 1:
+            self.numbers[step] = len(self.numbers) + 1
+        self.places[step] = len(self.sentences)
+        conclusion = self.failed if is_last else self.derivation.conclusion(step)
+        self.sentences.append((self.numbers.get(step), f"{because}, {conclusion}."))
+
+    def lines(self) -> list[str]:
+        """The sentences as lines, with room for the numbers where there are some."""
+        width = max((len(f"({number}) ") for number in self.numbers.values()), default=0)
+        return [(f"({number}) " if number else "").ljust(width) + text if text else ""
+                for number, text in self.sentences]

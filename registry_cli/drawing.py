@@ -1,44 +1,103 @@
 """Pictures of a derivation and of a selection, as SVG.
 
-A derivation is a column of boxes, one a line, each below those that it rests on; a line on the left leads from a box to
-those that cite it. A selection is a staircase of packages: what a package needs is found to the right of it and then
-down.
+A derivation is a column of boxes, each below those that it rests on; a line on the left leads from a box to those that
+cite it. A selection is a staircase of packages: what a package needs is to the right of it and then down.
 """
 from __future__ import annotations
 
+import html
 import textwrap
 
-from . import TYPE_CHECKING
 from .check_derivation import ROOT, demand
 from .derivation import FAILED, Fact, Step, joined
-from .folding import MOST_SHOWN, cited, folded
-from .svg import arrow, dot, line, sheet, text, width
-
-if TYPE_CHECKING:
-    from collections.abc import Mapping, Sequence
-
-    from .check_derivation import Registry
-    from .derivation import Derivation
-    from .shapes import Request
-
-    Needs = Mapping[str, dict[str, str]]  # by package, or the request, what it needs with the requirement
+from .shapes import Container, Derivation, Iterable, Mapping, Needs, Registry, Request, Sequence
 
 MARGIN = 16
+MOST_SHOWN = 48  # lines of a long derivation, those nearest to its end; what they rest on besides stands folded
 INK, FAINT, PAPER, EDGE, ALARM = "#222222", "#5c6b7a", "#f4f6f8", "#44546a", "#b3261e"
 COLOURS = ["#3b6ea5", "#b5651d", "#3d8b57", "#8a4f9e", "#a33b5b", "#4f7f86"]
 # a box of a derivation: its letters, the rows of them, what is left free, and how far the lines on its left are apart
 SAID, WHY, ROW, GAP, LANE, MOST_LETTERS = 13, 11, 15, 8, 11, 110
 # a step of the staircase
 STAIR = 18
+# how wide a letter is, for the widest of the common fonts, in parts of its size
+NARROW, WIDE = set("fijlrt.,:;'|!()[] -"), set("mwMW@%")
 # letters that stand on lines are seen whole
 HALO = '<text paint-order="stroke" stroke="#ffffff" stroke-width="3"'
 
 
+# ---- pieces of SVG
+
+def text(x: float, y: float, words: str, size: float, colour: str = "#222222", anchor: str = "start") -> str:
+    escaped = html.escape(words, quote=False)
+    return f'<text x="{x:.0f}" y="{y:.0f}" font-size="{size}" fill="{colour}" text-anchor="{anchor}">{escaped}</text>'
+
+
+def width(words: str, size: float) -> float:
+    """About how wide a text is, rather too much than too little."""
+    return size * sum(0.4 if it in NARROW else 1.0 if it in WIDE else 0.72 if it.isupper() else 0.64 for it in words)
+
+
+def line(points: Iterable[tuple[float, float]], colour: str, thick: float = 1.4) -> str:
+    way = "M" + " L".join(f"{x:.1f} {y:.1f}" for x, y in points)
+    return f'<path d="{way}" fill="none" stroke="{colour}" stroke-width="{thick}"/>'
+
+
+def dot(x: float, y: float, colour: str, size: float = 3.0, title: str | None = None) -> str:
+    inside = f"<title>{html.escape(title, quote=False)}</title>" if title else ""
+    return f'<circle cx="{x:.1f}" cy="{y:.1f}" r="{size}" fill="{colour}">{inside}</circle>'
+
+
+def arrow(x: float, y: float, colour: str, right: int = 0, down: int = 0) -> str:
+    """The head of an arrow that ends here and looks to one side."""
+    back, beside = (x - 6 * right, y - 6 * down), (4 * down, 4 * right)
+    ends = [(back[0] + sign * beside[0], back[1] + sign * beside[1]) for sign in (1, -1)]
+    sides = " ".join(f"L{one:.1f} {other:.1f}" for one, other in ends)
+    return f'<path d="M{x:.1f} {y:.1f} {sides} Z" fill="{colour}"/>'
+
+
+def sheet(wide: float, high: float, pieces: Sequence[str]) -> str:
+    head = (f'<svg xmlns="http://www.w3.org/2000/svg" width="{wide:.0f}" height="{high:.0f}" '
+            f'viewBox="0 0 {wide:.0f} {high:.0f}" font-family="sans-serif">')
+    return "\n".join([head, '<rect width="100%" height="100%" fill="#ffffff"/>', *pieces, "</svg>"]) + "\n"
+
+
 # ---- a derivation
 
+def cited(step: Step) -> list[Step]:
+    return [it for it in step.below() if it.number]
+
+
+def folded(derivation: Derivation, most: float = MOST_SHOWN) -> dict[Step, int]:
+    """The lines to show, each with how many hidden ones it rests on: `most` have reasons, the others none."""
+    lines = [it for it in derivation.steps if it.number]
+    if len(lines) <= most:
+        return {it: 0 for it in lines}
+    shown: dict[Step, int] = {}
+    waiting = [derivation.last]
+    for step in waiting:  # it grows: the lines by their distance from the last one
+        if len(shown) < most and step not in shown:
+            shown[step] = 0
+            waiting += cited(step)
+    ends = [it for it in waiting if it not in shown]
+    shown |= {end: hidden_below(end, {*shown, *ends}) for end in ends}
+    return {it: shown[it] for it in lines if it in shown}
+
+
+def hidden_below(end: Step, shown: Container[Step]) -> int:
+    """How many lines a line rests on, directly or not, that are not among these."""
+    found: set[Step] = set()
+    waiting = [end]
+    while waiting:
+        for it in cited(waiting.pop()):
+            if it not in shown and it not in found:
+                found.add(it)
+                waiting.append(it)
+    return len(found)
+
+
 class Box:
-    """A line of a derivation: its texts, and which lines it cites. `hidden` says how many lines it rests on that have
-    no box; its other reasons are left out then."""
+    """`hidden` is how many lines without a box it rests on; its other reasons are left out then."""
 
     def __init__(self, derivation: Derivation, step: Step, failed: str, hidden: int = 0) -> None:
         self.number, self.is_last, self.hidden = step.number, step is derivation.last, hidden
@@ -57,14 +116,12 @@ class Box:
         return max(*(width(it, SAID) for it in self.said), *(width(it, WHY) for it in self.why))
 
     def enters(self, number: int | None) -> float:
-        """How high the line from a cited one comes in."""
         return self.top + 11 + 9 * self.cites.index(number)
 
     def leaves(self) -> float:
         return self.top + self.high - 7
 
     def drawn(self, x: float, gutter: float, wide: float) -> list[str]:
-        """The box with its texts."""
         colour, y = ALARM if self.is_last else EDGE, self.top + 19
         dashes = ' stroke-dasharray="5 4"' if self.hidden else ""
         outline = f'stroke="{colour}" stroke-width="{2 if self.is_last else 1}"{dashes}'
@@ -80,7 +137,6 @@ class Box:
 
 
 def facts_of(step: Step) -> list[Fact]:
-    """The facts that a step rests on; what has no line of its own is told by its facts."""
     facts: list[Fact] = []
     for cause in step.causes:
         if isinstance(cause, Fact):
@@ -136,7 +192,6 @@ def legend(derivation: Derivation, boxes: Sequence[Box]) -> list[str]:
 
 
 def draw_derivation(derivation: Derivation, title: str, failed: str = FAILED, most: float = MOST_SHOWN) -> str:
-    """The picture of a derivation, folded where it has more than so many lines."""
     title = textwrap.shorten(title, MOST_LETTERS, placeholder=" ..")
     boxes = [Box(derivation, step, failed, hidden) for step, hidden in folded(derivation, most).items()]
     told = legend(derivation, boxes)
@@ -158,7 +213,6 @@ def draw_derivation(derivation: Derivation, title: str, failed: str = FAILED, mo
 # ---- a selection
 
 def needs_of(registry: Registry, request: Request, selected: Mapping[str, str]) -> dict[str, dict[str, str]]:
-    """What the request and each selected package need, with the requirement, by package."""
     needs = {ROOT: dict(request["needs"])}
     for name, version in selected.items():
         release = registry.find(name, version)
@@ -187,8 +241,7 @@ def from_above(needs: Needs) -> list[str]:
 
 def stairs(needs: Needs, order: Sequence[str], places: Mapping[str, tuple[float, float]],
            labels: Mapping[str, str]) -> list[str]:
-    """The ways from each package to what it needs: right to the other's column and down, or back beneath the names and
-    up."""
+    """To what each package needs: right to the other's column and down, or back beneath the names and up."""
     pieces: list[str] = []
     at = {name: place for place, name in enumerate(order)}
     for name in order:
@@ -214,7 +267,6 @@ def stairs(needs: Needs, order: Sequence[str], places: Mapping[str, tuple[float,
 
 
 def draw_selection(registry: Registry, request: Request, selected: Mapping[str, str], title: str) -> str:
-    """The picture of a selection: the packages with who needs whom."""
     title = textwrap.shorten(title, MOST_LETTERS, placeholder=" ..")
     needs = needs_of(registry, request, selected)
     order = from_above(needs)

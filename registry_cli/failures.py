@@ -1,19 +1,14 @@
-"""Why a subcommand ends without what was asked for: the exit statuses, and exceptions whose text is the line that
-people read."""
+"""Why a subcommand ends without what was asked for: statuses, and exceptions with the line that people read."""
 from __future__ import annotations
 
-from . import TYPE_CHECKING
-
-if TYPE_CHECKING:
-    from collections.abc import Mapping
+from collections.abc import Mapping
 
 DONE, REFUSED, USAGE, FAILED = 0, 1, 2, 3
 INTERRUPTED, NO_READER = 130, 141  # as a shell tells of a program that SIGINT or SIGPIPE ended
 
 
 class Failure(Exception):
-    """One line that says what happened and what to do; and further members of what `--json` prints of it, as the
-    program's reply."""
+    """One line that says what happened and what to do; `members` are further ones of what `--json` prints of it."""
     status, kind = FAILED, "failed"
 
     def __init__(self, message: str = "", members: Mapping[str, object] | None = None) -> None:

@@ -3,12 +3,8 @@ from __future__ import annotations
 
 import os
 
-from . import TYPE_CHECKING
 from .failures import Failed, one_line
-
-if TYPE_CHECKING:
-    from collections.abc import Callable
-    from pathlib import Path
+from .shapes import Callable, Path
 
 MOST_BYTES = 2 ** 28  # of a file that is imported
 
@@ -69,7 +65,6 @@ def write_whole(path: str, text: bytes, mode: int, place: Callable[[str, str], o
 
 
 def umask() -> int:
-    """The mode that new files are made without."""
     before = os.umask(0o077)
     os.umask(before)
     return before

@@ -1,6 +1,5 @@
 """The limits of docs/REGISTRY.md, once for all that is written in Python. `test_limits.py` compares them with that
-page, with the constants of the program, and with what can't read them from here: the schema of lines and the
-clients."""
+page, with the program, and with what can't read them from here: the schema of lines and the clients."""
 
 # bytes
 MOST_NAME_BYTES = 64

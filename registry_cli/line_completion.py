@@ -18,8 +18,7 @@ candidates: list[str] = []  # for the word that is typed
 
 
 def complete(text: str, state: int) -> str | None:
-    """The candidate of this number for the word that is typed, none where there are no more: as readline asks for
-    them."""
+    """The candidate of this number, none where there are no more: as readline asks for them."""
     global candidates
     if state == 0:
         candidates = offered(readline.get_line_buffer()[:readline.get_begidx()], text)
@@ -27,7 +26,6 @@ def complete(text: str, state: int) -> str | None:
 
 
 def offered(before: str, current: str) -> list[str]:
-    """What may stand behind a text for the beginning of a word."""
     try:
         words = shlex.split(before)
     except ValueError:

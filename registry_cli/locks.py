@@ -4,17 +4,11 @@ from __future__ import annotations
 import os
 from collections import namedtuple
 
-from . import TYPE_CHECKING
 from .check_derivation import NAME, PAIRS, formed, passes, precedence, read_requirement, read_version
 from .failures import Failed
 from .files import read_file
 from .limits import MOST_LINE_BYTES, MOST_NEEDS
-
-if TYPE_CHECKING:
-    from collections.abc import Callable, Iterable, Mapping, Sequence
-
-    from .output import Output
-    from .shapes import Pairs, Reply, Request
+from .shapes import Callable, Iterable, Mapping, Output, Pairs, Reply, Request, Sequence
 
 DEFAULT = "registry.lock"
 MADE = {"needs": PAIRS, "revision": int, "selected": PAIRS}  # the form of a lock file that says what it was made of
@@ -25,22 +19,19 @@ class Unread(Failed):
 
 
 class Lock(namedtuple("Lock", "selected needs revision", defaults=[None, None])):
-    """What a lock file has: versions by package and, unless it is a plain list, the needs and the revision that they
-    were selected for."""
+    """Versions by package and, but for a plain list, the needs and the revision that they were selected for."""
     selected: dict[str, str]
     needs: Pairs | None
     revision: int | None
 
 
 def are_read(pairs: object, read: Callable[[str], object]) -> bool:
-    """Whether a value is pairs of a name, each name once, and a text that is read."""
     if not isinstance(pairs, list) or not formed(pairs, PAIRS):
         return False
     return len(dict(pairs)) == len(pairs) and all(NAME.fullmatch(name) and read(it) is not None for name, it in pairs)
 
 
 def read_lock(text: bytes, path: str) -> Lock:
-    """The lock that stands in bytes of a file: a lock list, or an object that has one beside what it was made of."""
     import json
     try:
         value = json.loads(text.decode()) if len(text) <= MOST_LINE_BYTES else None
@@ -54,7 +45,6 @@ def read_lock(text: bytes, path: str) -> Lock:
 
 
 def faulty(path: str, text: bytes) -> str:
-    """What is wrong with a lock file: the fault for which the program would refuse it."""
     from registryd_lines.fault import placed
     from registryd_lines.judging import lock_faults
     fault = lock_faults(text)[0]
@@ -63,7 +53,6 @@ def faulty(path: str, text: bytes) -> str:
 
 
 def lock_of(path: str) -> Lock:
-    """The lock of a file."""
     if not os.path.lexists(path):
         raise Failed(f"{path}: there is no such lock file: `registry resolve NEED .. --write {path}` makes one")
     return read_lock(read_file(path), path)
@@ -79,7 +68,6 @@ def lock_text(lock: Lock) -> str:
 
 
 def array(rows: Sequence[Sequence[str]], before: str = "") -> str:
-    """An array as JSON, with an item a line behind this much space."""
     import json
     if not rows:
         return "[]"
@@ -87,8 +75,7 @@ def array(rows: Sequence[Sequence[str]], before: str = "") -> str:
 
 
 def renewed(before: Lock | None, request: Request, reply: Reply) -> Lock:
-    """The lock that takes the place of one, or of none. A plain list stays one, and what is made of the same needs
-    stays as it was."""
+    """A plain list stays one, and what is made of the same needs stays as it was."""
     made = Lock(dict(reply["selected"]), request["needs"], reply["revision"])
     if before is None:
         return made
@@ -98,8 +85,7 @@ def renewed(before: Lock | None, request: Request, reply: Reply) -> Lock:
 
 
 def changes(old: Mapping[str, str], new: Mapping[str, str]) -> list[str]:
-    """A line for each package whose version two locks don't share, by name: what was added or removed, and from what to
-    what."""
+    """A line for each package whose version two locks don't share, by name: added, removed, or from what to what."""
     lines = []
     for name in sorted({*old, *new}):
         if name not in old:
@@ -118,14 +104,12 @@ def changed(old: Mapping[str, str], new: Mapping[str, str]) -> list[dict[str, st
 
 
 def counted(lines: Iterable[str]) -> str:
-    """How many of such lines tell of what."""
     marks = [line[0] for line in lines]
     kinds = (("+", "added"), ("-", "removed"), ("~", "changed"))
     return ", ".join(f"{marks.count(mark)} {kind}" for mark, kind in kinds)
 
 
 def coloured(lines: Iterable[str], out: Output) -> list[str]:
-    """Such lines as a terminal shows them."""
     return [out.style(line, {"+": "green", "-": "red", "~": "yellow"}[line[0]]) for line in lines]
 
 

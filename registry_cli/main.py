@@ -8,18 +8,15 @@ import os
 import signal
 import sys
 
-from . import TYPE_CHECKING, command_line
+from . import command_line
 from .failures import DONE, FAILED, INTERRUPTED, NO_READER, USAGE, Failed, Failure, Usage, one_line
 from .output import Output, choose, fail
-
-if TYPE_CHECKING:
-    from typing import NoReturn
+from .shapes import NoReturn
 
 FULL = (errno.ENOSPC, errno.EDQUOT, errno.EFBIG, errno.EIO)  # errors of a write
 
 
 def run(words: list[str], out: Output) -> int:
-    """Obeys a command line; answers the exit status."""
     for place, it in enumerate(words, 1):
         if any("\ud800" <= letter <= "\udfff" for letter in it):
             raise Usage(f"word {place} is not UTF-8")
@@ -41,10 +38,10 @@ def general(words: list[str]) -> int:
         from .completion import complete
         print(*complete(words[1:]), sep="\n")
     elif words[:1] == ["--completion"]:
-        from .completion import SCRIPTS
-        if words[1:2] == [] or words[1] not in SCRIPTS:
-            raise Usage(f"--completion takes one of {', '.join(SCRIPTS)}")
-        print(SCRIPTS[words[1]], end="")
+        from .completion import SHELLS, script
+        if words[1:2] == [] or words[1] not in SHELLS:
+            raise Usage(f"--completion takes one of {', '.join(SHELLS)}")
+        print(script(words[1]), end="")
     elif words == ["--manual"]:
         from .manual import page
         print(page(), end="")
@@ -54,20 +51,14 @@ def general(words: list[str]) -> int:
     elif words[0:1] in (["--version"], ["-V"], ["--manual"]):
         raise Usage(f"nothing may follow {words[0]}: see {command_line.HELP}")
     else:
-        return overview(words)
+        from . import parsing
+        wants_help = "--help" in words or "-h" in words
+        print(parsing.overview(), end="", file=sys.stdout if wants_help else sys.stderr)
+        return DONE if wants_help else USAGE
     return DONE
 
 
-def overview(words: list[str]) -> int:
-    """The help of the whole, which is what was asked for or what was missed."""
-    from . import parsing
-    wants_help = "--help" in words or "-h" in words
-    print(parsing.overview(), end="", file=sys.stdout if wants_help else sys.stderr)
-    return DONE if wants_help else USAGE
-
-
 def guarded(words: list[str]) -> int:
-    """The same, with what goes wrong as one line, and as JSON where that is wanted."""
     out = Output("--json" in words)
     try:
         status = run(words, out)
@@ -84,7 +75,6 @@ def guarded(words: list[str]) -> int:
 
 
 def failed(out: Output, fault: Failure) -> int:
-    """Tells why a command line fails; answers the exit status."""
     try:
         out.fail(fault)
     except BrokenPipeError:
@@ -96,8 +86,7 @@ def failed(out: Output, fault: Failure) -> int:
 
 
 def unwritten(fault: OSError) -> str:
-    """An operating system's error in one line. That of a full standard output has no file, and nothing more goes
-    there."""
+    """In one line. The error of a full standard output has no file, and nothing more goes there then."""
     if fault.errno in FULL and not fault.filename:  # whoever writes a file names it
         fault.filename = "standard output"
         write_no_more()
@@ -120,8 +109,7 @@ def command() -> NoReturn:
 
 
 def main(words: list[str]) -> int:
-    """The exit status of a command line. Its reader may have enough before the end, and a key may interrupt it: neither
-    is a fault."""
+    """It is no fault that the reader has enough before the end, or that a key interrupts."""
     open_streams()
     try:
         return guarded(words)
@@ -135,7 +123,6 @@ def main(words: list[str]) -> int:
 
 
 def status_of(ended: SystemExit) -> int:
-    """The exit status of what has ended the command."""
     return ended.code if isinstance(ended.code, int) else DONE if ended.code is None else FAILED
 
 

@@ -1,14 +1,9 @@
 """The manual page registry.1, made of the table."""
 from __future__ import annotations
 
-from . import TYPE_CHECKING
 from .command_line import flags
+from .shapes import Sequence, Subcommand, Word
 from .table import COMMON, SUBCOMMANDS
-
-if TYPE_CHECKING:
-    from collections.abc import Sequence
-
-    from .table import Subcommand, Word
 
 ABOUT = ("`registry` is what people type to a package registry with a version solver. It keeps packages, their "
          "versions and what those need in one file, the journal, and selects versions that fit together. What is "
@@ -32,14 +27,12 @@ FILES = (("registry.journal", "The journal, in the folder where the command is g
 
 
 def escaped(text: str) -> str:
-    """A text as roff shows it."""
     for letter, roff in (("\\", "\\e"), ("-", "\\-"), ("^", "\\(ha"), ("~", "\\(ti"), ("`", "\\(ga")):
         text = text.replace(letter, roff)
     return "\\&" + text if text[:1] in (".", "'") else text
 
 
 def usage(subcommand: Subcommand) -> str:
-    """The words of a subcommand in short, as roff."""
     pieces = []
     for it in subcommand.words:
         named = " ".join(f"\\fI{escaped(name)}\\fR" for name in it.names) + {"*": " ..", "+": " .."}.get(it.many, "")
@@ -64,7 +57,6 @@ def sentence(text: str) -> str:
 
 
 def page(version: str = "") -> str:
-    """The whole page."""
     lines = [f'.TH REGISTRY 1 "" "{version or "registryd"}"',
              ".SH NAME", "registry \\- a package registry with a version solver",
              ".SH SYNOPSIS",

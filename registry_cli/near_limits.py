@@ -2,12 +2,9 @@
 from __future__ import annotations
 
 from collections import Counter
+from collections.abc import Iterable, Iterator
 
-from . import TYPE_CHECKING
 from .limits import MOST_COMMANDS, MOST_PACKAGES, MOST_VERSIONS
-
-if TYPE_CHECKING:
-    from collections.abc import Iterable, Iterator
 
 SHORTEST = 100_000  # bytes: no journal that is shorter is near a limit, so most are not looked at
 NAMING = 10  # bytes that a journal has at least for each name: `["a","*"],`
@@ -57,7 +54,6 @@ def warn(path: str, text: bytes | None = None) -> None:
 
 
 def tell(warned: Iterable[str]) -> None:
-    """Tells warnings on standard error."""
     from .output import Output
     for it in warned:
         Output.note(it)

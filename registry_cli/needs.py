@@ -1,20 +1,16 @@
-"""Needs: as they are typed, and as a needs file beside a lock file keeps them."""
+"""Needs, as they are typed or as a needs file beside a lock file keeps them, and requests to select what meets them."""
 from __future__ import annotations
 
 import contextlib
 import os
 import re
+import sys
 
-from . import TYPE_CHECKING
-from .check_derivation import NAME, read_requirement
-from .failures import Usage
+from .check_derivation import NAME, read_requirement, read_version
+from .failures import REFUSED, Usage
 from .files import read_file, write_file
 from .locks import DEFAULT, Unread, lock_of
-
-if TYPE_CHECKING:
-    from collections.abc import Sequence
-
-    from .shapes import Options, Pairs
+from .shapes import Asking, Iterator, Listed, Mapping, Options, Output, Pairs, Reading, Reply, Request, Sequence
 
 NEED = re.compile(r"\s*([^@\s]*)(?:(?:\s*@\s*|\s+)(.*))?", re.S)  # of a text without white space at its end
 # what other tools have in place of the @: `log==1.0.0`, `log:1.0.0`, `log-1.0.0`, `log/1.0.0`, `log(>=1)`
@@ -30,8 +26,7 @@ def parted(text: str) -> re.Match[str]:
 
 
 def need_of(text: str) -> list[str]:
-    """A package and a requirement of one word: `app@^1`, `app ^1`, or `app` alone for any version. The program judges
-    both."""
+    """`app@^1`, `app ^1`, or `app` alone for any version. The program judges both parts."""
     name, requirement = parted(text.rstrip()).groups("*")
     return [name, requirement]
 
@@ -47,10 +42,9 @@ def needs_of(words: Sequence[str]) -> Pairs:
 
 
 def slip(word: str, before: str = "") -> str:
-    """What is wrong with a word that has no package before an @, and what was probably meant, also with the word before
-    it; nothing where only its letters may be wrong."""
+    """What is wrong with a word that has no package before an @; nothing where only its letters may be wrong."""
     from registryd_lines.fault import shown
-    from registryd_lines.requirements import requirement_fault
+    from registryd_lines.texts import requirement_fault
     word = word.strip()
     found = re.fullmatch(JOINED, word)
     if word.endswith(".lock"):
@@ -78,7 +72,6 @@ def needs_path(lock: str) -> str:
 
 
 def read_needs(path: str) -> Pairs:
-    """The needs of a file: a name and a requirement a line, or a name alone; what stands behind a `#` is a comment."""
     try:
         text = read_file(path).decode()
     except UnicodeDecodeError:
@@ -95,12 +88,10 @@ def read_needs(path: str) -> Pairs:
 
 
 def faulty(path: str, number: int, found: re.Match[str]) -> str:
-    """What is wrong with a line of a needs file, and where: its package, its requirement, or that the package stands
-    before it too."""
+    """What is wrong with a line: its package, its requirement, or that the package stands before it too."""
     from registryd_lines.fault import Fault, placed
     from registryd_lines.judging import text_fault
-    from registryd_lines.requirements import requirement_fault
-    from registryd_lines.texts import name_fault
+    from registryd_lines.texts import name_fault, requirement_fault
     (name, requirement), at = found.groups("*"), found.start(1)
     reason = "" if NAME.fullmatch(name) else slip(found[0])
     fault = Fault(1, at, reason) if reason else text_fault(1, name_fault, name, at)
@@ -118,8 +109,7 @@ def write_needs(path: str, needs: Pairs) -> bool:
 
 
 def needs_known(typed: Sequence[str] | None, lock: str) -> Pairs | None:
-    """The needs that were typed; where there are none, those of the needs file beside a lock file, else those that the
-    lock file was made for; none where nothing says any."""
+    """The needs that were typed, else those of the needs file, else the lock file's; none where nothing says any."""
     if typed:
         return needs_of(typed)
     path = needs_path(lock)
@@ -136,3 +126,52 @@ def needs_given(options: Options) -> Pairs:
         where = f"write it into {needs_path(lock)}, a name and a requirement a line"
         raise Usage(f"name what is needed, as app@^1, or {where}")
     return needs
+
+
+# ---- requests to select versions, and what is told of their answers
+
+def request_of(options: Options, lock: Mapping[str, str] | None = None) -> Request:
+    """With the needs that are typed or kept, and the lock file that is named, or this lock."""
+    if lock is None:
+        lock = lock_of(options.lock).selected if options.lock else {}
+    kept = [list(it) for it in sorted(lock.items())]
+    request: Request = {"op": "resolve", "needs": needs_given(options), "lock": kept, "explain": True}
+    budget: int | None = getattr(options, "budget", None)
+    if budget is not None:
+        request["budget"] = budget
+    return request
+
+
+def answered(session: Asking, request: Request) -> Reply:
+    from .refusals import accepted  # while the program loads the journal
+    return accepted(session, request, *session.ask(request))
+
+
+def refused(session: Reading, request: Request, reply: Reply, out: Output) -> int:
+    from .cases import Case, tell
+    from .catalog import catalog_of
+    from .packages import registry_in
+    from .searching import explaining
+    out.give(reply, [])
+    with explaining(is_refused=True):
+        catalog = catalog_of(session.journal())
+        case = Case(request, reply, lambda named: registry_in(catalog, named), lambda it: session.ask(it)[0],
+                    set(catalog.lines))
+        lines = case.answer()
+    tell(case, lines, sys.stderr, False, "`registry why` tells all of them")
+    return REFUSED
+
+
+def lock_notes(path: str, lock: Mapping[str, str], packages: Mapping[str, Sequence[Listed]]) -> Iterator[str]:
+    for name, text in sorted(lock.items()):
+        found = [yanked for other, yanked in packages.get(name, []) if read_version(other) == read_version(text)]
+        if not found:
+            yield f"{path} names {name} {text}, which is not published"
+        elif found[0]:
+            yield f"{path} names {name} {text}, which is yanked"
+
+
+def needs_selected(session: Reading, selected: Mapping[str, str]) -> dict[str, Pairs]:
+    from .catalog import catalog_of
+    catalog = catalog_of(session.journal())
+    return {name: catalog.version(name, version).needs for name, version in selected.items()}

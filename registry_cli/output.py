@@ -1,5 +1,4 @@
-"""Where answers go: lines for people, wrapped and in colour on a terminal, or JSON where `--json` asks for it; and
-standard error."""
+"""Where answers go: lines for people, wrapped and in colour on a terminal, or JSON; and standard error."""
 from __future__ import annotations
 
 import os
@@ -7,14 +6,7 @@ import sys
 import time
 from collections import namedtuple
 
-from . import TYPE_CHECKING
-
-if TYPE_CHECKING:
-    from collections.abc import Iterable
-    from typing import TextIO
-
-    from .failures import Failure
-    from .shapes import Options
+from .shapes import Failure, Iterable, Options, TextIO
 
 STYLES = {"bold": "1", "faint": "2", "red": "31", "green": "32", "yellow": "33"}
 # stands for the beginning of a colour's code until a line is printed: no text has it by chance
@@ -25,8 +17,7 @@ NARROWEST = 20  # columns that wrapped text has
 
 
 class Choice(namedtuple("Choice", "color is_quiet is_verbose seconds begun", defaults=["", False, False, 0, 0])):
-    """What the options of a command line say of all that it prints and asks: of `seconds` that a search with its
-    explanation may take, 0 is any time, and `begun` is when the command line was read."""
+    """The options of a command line. A search with its explanation may take `seconds`, since it was read at `begun`."""
     color: str
     is_quiet: bool
     is_verbose: bool
@@ -52,8 +43,7 @@ def keep_choice(kept: Choice) -> Choice:
 
 
 def is_coloured(stream: TextIO | None) -> bool:
-    """Whether colour may go there: as --color says, else only to a terminal that knows it, and not against
-    https://no-color.org."""
+    """As --color says, else only to a terminal that knows it, and not against https://no-color.org."""
     if stream is None or chosen.color in ("always", "never"):
         return stream is not None and chosen.color == "always"
     return stream.isatty() and not os.environ.get("NO_COLOR") and os.environ.get("TERM") != "dumb"
@@ -77,7 +67,6 @@ def numbered(code: int) -> str:
 
 
 def wrapped(line: str, columns: int) -> str:
-    """A line broken between words into rows of so many columns."""
     if not columns:
         return line
     import re
@@ -108,7 +97,6 @@ def write(stream: TextIO, lines: Iterable[str]) -> None:
 
 
 def say(*lines: str) -> None:
-    """Lines on standard error."""
     write(sys.stderr, lines)
 
 
@@ -131,8 +119,6 @@ def detail(text: str) -> None:
 
 
 class Output:
-    """Standard output and standard error of one subcommand."""
-
     def __init__(self, is_json: bool = False) -> None:
         self.is_json, self.has_answered = is_json, False
 
@@ -146,12 +132,10 @@ class Output:
             write(sys.stdout, lines)
 
     def style(self, text: str, *styles: str) -> str:
-        """A text for standard output in some of the STYLES."""
         return text if self.is_json else style(text, sys.stdout, *styles)
 
     def fail(self, fault: Failure) -> None:
-        """Why there is no answer, or no more than was given: on standard error and, in place of an answer in JSON, on
-        standard output."""
+        """On standard error and, in place of an answer in JSON, on standard output."""
         sys.stdout.flush()
         fail(str(fault))
         if self.is_json and not self.has_answered:
@@ -161,7 +145,6 @@ class Output:
 
     @staticmethod
     def note(text: str) -> None:
-        """One such line: what is worth knowing, and no answer."""
         aside(f"{style('registry:', sys.stderr, 'bold')} {text}")
 
     @staticmethod

@@ -1,17 +1,11 @@
-"""The registry in Python that refusals are told of, by the rules carried out once more, from a journal's commands."""
+"""The registry in Python that refusals are told of, by the rules carried out once more; and walks of selections."""
 from __future__ import annotations
 
 from itertools import chain
 
-from . import TYPE_CHECKING
-from .check_derivation import Registry, demand
+from .check_derivation import Registry, demand, precedence
 from .failures import Failed
-
-if TYPE_CHECKING:
-    from collections.abc import Iterable, Sequence
-
-    from .catalog import Catalog
-    from .shapes import Request, Row
+from .shapes import Catalog, Iterable, Mapping, Pairs, Request, Row, Sequence
 
 
 def registry_of(commands: Sequence[Request], names: Iterable[str]) -> Registry:
@@ -40,7 +34,27 @@ def filled(mentioned: Iterable[str], commands: Iterable[Request], revision: int)
 
 
 def named(request: Request, rows: Iterable[Row]) -> set[str]:
-    """The packages that a request and a derivation name."""
     causes = [cause for row in rows for cause in row["causes"]]
     of_causes = {name for cause in causes for name in (cause.get("name"), cause.get("target")) if name is not None}
     return {*dict(request["needs"]), *dict(request.get("lock", [])), *of_causes}
+
+
+def walk(needs: Pairs, selected: Mapping[str, str], registry: Registry) -> list[str]:
+    """First the needs, by name, and then what each listed package depends on, as it was published."""
+    listed = dict.fromkeys(sorted(dict(needs)))
+    waiting = list(listed)
+    for name in waiting:  # which grows
+        release = registry.find(name, selected[name])
+        if not release:
+            raise ValueError(f"{name} {selected[name]} was selected and is not published")
+        for target in release.needs:
+            if target not in listed:
+                listed[target] = None
+                waiting.append(target)
+    return waiting
+
+
+def is_preferred(one: str, other: str, locked: str | None = None) -> bool:
+    """Whether of two versions of a package the first is preferred: the one that the lock names, else the higher one."""
+    first, second, kept = precedence(one), precedence(other), precedence(locked) if locked else None
+    return first != second and (first == kept or (second != kept and first > second))

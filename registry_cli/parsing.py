@@ -1,5 +1,4 @@
-"""Reads the words of a command line by the parser of the standard library, which tells what is wrong with them, and has
-the help."""
+"""Reads the words of a command line by argparse, which tells what is wrong with them and has the help."""
 from __future__ import annotations
 
 import argparse
@@ -10,17 +9,10 @@ from functools import partial
 
 from registryd_lines.nearest import nearest
 
-from . import TYPE_CHECKING
-
 from .command_line import flags, number
 from .failures import Usage
+from .shapes import Any, Callable, NoReturn, Sequence, Subcommand, Word
 from .table import COMMON, SUBCOMMANDS
-
-if TYPE_CHECKING:
-    from collections.abc import Callable, Sequence
-    from typing import Any, NoReturn
-
-    from .table import Subcommand, Word
 
 WIDE = 78  # of sentences in the help
 UNKNOWN = 80  # columns of what is no terminal
@@ -31,8 +23,6 @@ WORDS_ELSEWHERE = ("need", "needs", "dep", "deps", "dependency", "dependencies",
 
 
 class Parser(argparse.ArgumentParser):
-    """A parser whose faults are exceptions, in one line."""
-
     def error(self, message: str) -> NoReturn:
         option = message.partition("--")[2].partition(" ")[0].partition("=")[0].rstrip(":")
         known = self._option_string_actions
@@ -60,7 +50,6 @@ def layout() -> partial[argparse.RawDescriptionHelpFormatter]:
 
 
 def reader(subcommand: Subcommand) -> Parser:
-    """The parser of a subcommand's words."""
     about = "\n\n".join(textwrap.fill(it, WIDE) for it in (subcommand.summary + ".", subcommand.more) if it)
     parser = Parser(prog=f"registry {subcommand.name}", description=about, epilog=shown(subcommand.examples),
                     formatter_class=layout(), allow_abbrev=False)
@@ -74,7 +63,6 @@ def shown(examples: Sequence[str]) -> str:
 
 
 def add(parser: Parser, word: Word) -> None:
-    """One word or option."""
     settings: dict[str, Any] = {"help": word.about.replace("%", "%%")}  # of which each has a type of its own
     if word.flag:
         settings["dest"] = word.member
@@ -103,7 +91,6 @@ def number_in(numbers: range) -> Callable[[str], int]:
 
 
 def overview() -> str:
-    """The help of the whole."""
     wide = max(len(it.name) for it in SUBCOMMANDS)
     parser = Parser(prog="registry", usage="registry SUBCOMMAND ..", add_help=False, formatter_class=layout(),
                     description="A package registry with a version solver, over one file.\n\nsubcommands:\n"

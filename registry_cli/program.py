@@ -10,8 +10,7 @@ TOP = os.path.dirname(os.path.dirname(os.path.abspath(__file__)))
 
 
 def program() -> list[str]:
-    """The words that start the program: what the environment names, else the one beside this command, else that of the
-    path."""
+    """What the environment names, else the program beside this command, else that of the path."""
     named = os.environ.get(VARIABLE)
     beside = os.path.join(TOP, "registryd")
     found = named or (beside if os.path.isfile(beside) else None)
@@ -24,7 +23,6 @@ def program() -> list[str]:
 
 
 def version() -> str:
-    """What the program says of its version."""
     done = tied.run([*program(), "--version"], stdout=subprocess.PIPE, stderr=subprocess.PIPE)
     if done.returncode:
         raise Failed("the program tells no version")

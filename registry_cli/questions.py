@@ -7,21 +7,16 @@ are yanked. A derivation that this session tells is told back over the packages 
 """
 from __future__ import annotations
 
-from . import TYPE_CHECKING
 from .catalog import line_of
 from .check_derivation import ALWAYS, ROOT, read_version, resolve
 from .derivation import Holding
 from .failures import Refused
-from .journal_file import Over, journal_text
+from .journal_file import journal_text
 from .limits import MOST_COMMANDS, MOST_NEEDS, MOST_REQUIREMENT_BYTES
 from .packages import named
-from .renewal import commands_of, releases_of
-
-if TYPE_CHECKING:
-    from collections.abc import Collection, Iterable, Iterator, Mapping, Sequence
-
-    from .renewal import Release
-    from .shapes import Cause, Pairs, RegistryOf, Reply, Request, Row
+from .renewal import Release, commands_of, releases_of
+from .session import Over
+from .shapes import Cause, Collection, Iterable, Iterator, Mapping, Pairs, RegistryOf, Reply, Request, Row, Sequence
 
 MADE, VERSION = "made", "1.0.0"  # how the names begin of packages that are made for a question, and the version of each
 
@@ -44,13 +39,11 @@ class Question:
         self.request = request | changed
 
     def is_plain(self) -> bool:
-        """Whether a request alone can ask it."""
         return not self.barring and len(self.request["needs"]) <= MOST_NEEDS
 
     def put(self, commands: Sequence[Request], request: Request, registry: RegistryOf) -> Reply:
-        """The reply of a session of its own, over what the question reaches of a registry with these commands.
-        `request` is the question's, whose lock and budget may be others. `registry` answers the registry in Python,
-        with some packages."""
+        """Asks a session of its own, over what the question reaches of a registry with these commands. `request` may
+        have another lock and budget, and `registry` answers the registry in Python, with some packages."""
         needs, made = bundled(self.request["needs"], commands)
         lines = [*reached(commands, dict(self.request["needs"])), *made]
         barred = [it for it in releases_of(commands).values() if self.bars(it)]
@@ -64,7 +57,6 @@ class Question:
         return self.told_back(reply, [name for name, _ in needs], {it["name"] for it in made}, registry)
 
     def told_back(self, reply: Reply, asked: Sequence[str], made: set[str], registry: RegistryOf) -> Reply:
-        """A reply without the packages that were made, of which some were `asked` for."""
         told: Reply = {}
         if "selected" in reply:
             told = {"selected": [it for it in reply["selected"] if it[0] not in made]}
@@ -97,8 +89,7 @@ def reached(commands: Iterable[Request], names: Collection[str]) -> Iterator[Req
 
 
 def bundled(needs: Pairs, commands: Iterable[Request]) -> tuple[Pairs, list[Request]]:
-    """Needs that a request may have, and the publications of packages that depend on what is needed, where that is
-    more."""
+    """Needs that a request may have, and the publications of packages that depend on what is more than that."""
     published = [it for it in commands if it["op"] == "publish"]
     known = {name for it in published for name in (it["name"], *dict(it["needs"]))}.union(dict(needs))
     begin = MADE
@@ -115,9 +106,8 @@ def bundled(needs: Pairs, commands: Iterable[Request]) -> tuple[Pairs, list[Requ
 
 
 class Retold:
-    """A derivation over a registry with packages that were made, told back without them: the request needs itself what
-    they depend on. `judge` says what a cause is over the registry alone, and holds what was concluded there; `asked`
-    are the packages that were needed."""
+    """A derivation without the packages that were made: the request needs itself what they depend on. `judge` holds
+    what was concluded over the registry alone, and `asked` are the packages that were needed."""
 
     def __init__(self, judge: Holding, asked: Sequence[str], made: set[str]) -> None:
         self.judge, self.asked, self.made = judge, asked, made

@@ -5,15 +5,10 @@ import json
 
 from registryd_lines.nearest import nearest
 
-from . import TYPE_CHECKING
 from .check_derivation import NAME, precedence, read_version
 from .failures import Refused
 from .limits import MOST_NEEDS, MOST_PACKAGES, MOST_VERSIONS
-
-if TYPE_CHECKING:
-    from collections.abc import Callable, Collection, Iterable, Mapping, Sequence
-
-    from .shapes import Asking, Listed, Pairs, Reply, Request
+from .shapes import Asking, Callable, Collection, Iterable, Listed, Mapping, Pairs, Reply, Request, Sequence
 
 MOST_TOLD = 3
 SHORTEST = 3  # of names that are shorter each is near to any other
@@ -34,13 +29,11 @@ def versions_told(versions: Iterable[Listed]) -> str:
 
 
 def unpublished(name: str, names: Collection[str]) -> str:
-    """What is said of a package that has no publication."""
     near = nearest(name, names) if len(name) >= SHORTEST else None
     return f"no version of {name} is published" + (f"; did you mean {near}?" if near else "")
 
 
 def unmatched(name: str, requirement: str, versions: Iterable[Listed]) -> str:
-    """What is said of a requirement that no published version meets."""
     return f"no version of {name} matches {requirement}; {versions_told(versions)}"
 
 
@@ -52,10 +45,9 @@ def not_there(request: Request, packages: Mapping[str, Sequence[Listed]]) -> str
 
 
 def misspelled(request: Request, number: int) -> str:
-    """What is wrong with the first name, version or requirement that a request is refused for, and what was probably
-    meant."""
+    """The first name, version or requirement that is at fault, and what was probably meant."""
     from registryd_lines.judging import faults
-    from registryd_lines.requirements import requirement_fault
+    from registryd_lines.texts import requirement_fault
     name, version = request.get("name", ""), request.get("version", "")
     if number == 1 and read_version(name) and NAME.fullmatch(version):
         return f"{name} is a version, not a package; did you mean {version} {name}?"
@@ -66,7 +58,6 @@ def misspelled(request: Request, number: int) -> str:
 
 
 def repeated(needs: Pairs, lock: Pairs) -> str:
-    """The package that is named twice, in the needs or else in the lock."""
     for names in ([name for name, _ in pairs] for pairs in (needs, lock)):
         for it in names:
             if names.count(it) > 1:
@@ -75,8 +66,7 @@ def repeated(needs: Pairs, lock: Pairs) -> str:
 
 
 def english(request: Request, reply: Reply, packages: Callable[[], Mapping[str, Sequence[Listed]]]) -> str:
-    """What a refusal says in one line. `packages` answers the packages with their versions, and is asked only where
-    they matter."""
+    """A refusal in one line. `packages` is asked only where those that are published matter."""
     needs, lock = request.get("needs", []), request.get("lock", [])
     subject = f"{request.get('name')} {request.get('version')}"
     sentences: dict[int, Callable[[], str]] = {
@@ -103,7 +93,6 @@ def english(request: Request, reply: Reply, packages: Callable[[], Mapping[str, 
 
 
 def listed(session: Asking) -> dict[str, list[Listed]]:
-    """The packages of a session with their versions, as pairs of a text and whether it is yanked."""
     (reply,) = session.ask({"op": "list"})
     return dict(reply["packages"])
 

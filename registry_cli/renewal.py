@@ -1,23 +1,15 @@
-"""What of a registry is kept where its journal begins anew: what lock files select, the newest versions of each
-package, and what those need. What these need is asked of the program: so whatever is kept can be selected as before,
-alone and by its lock file."""
+"""What is kept where a journal begins anew: what lock files select, the newest versions of each package, and what those
+need by the program's selection: so whatever is kept can be selected as before, alone and by its lock file."""
 from __future__ import annotations
 
-from typing import TYPE_CHECKING, NamedTuple
+from typing import NamedTuple
 
 from .check_derivation import precedence
 from .limits import MOST_NEEDS, MOST_REQUIREMENT_BYTES
 from .needs import needs_known
-
-if TYPE_CHECKING:
-    from collections.abc import Collection, Iterable, Iterator, Mapping
-
-    from .bar import Bar
-    from .check_derivation import Version
-    from .shapes import Asking, Pairs, Reply, Request
-
-    Key = tuple[str, Version]
-    Releases = Mapping[Key, "Release"]
+from .shapes import (
+    Asking, Bar, Collection, Iterable, Iterator, Key, Mapping, Pairs, Precedence, Releases, Reply, Request,
+)
 
 BUDGET = 10_000  # conflicts of one request
 
@@ -40,7 +32,6 @@ class Release(NamedTuple):
 
 
 def releases_of(commands: Iterable[Request]) -> dict[Key, Release]:
-    """The releases by their keys, in order of publication."""
     found: dict[Key, Release] = {}
     for it in commands:
         key = it["name"], precedence(it["version"])
@@ -53,7 +44,7 @@ def releases_of(commands: Iterable[Request]) -> dict[Key, Release]:
 
 def newest(releases: Releases, most: int) -> set[Key]:
     """The keys of so many of the highest versions of each package that are not yanked."""
-    by_name: dict[str, list[Version]] = {}
+    by_name: dict[str, list[Precedence]] = {}
     for (name, version), it in releases.items():
         if not it.is_yanked:
             by_name.setdefault(name, []).append(version)
@@ -61,7 +52,6 @@ def newest(releases: Releases, most: int) -> set[Key]:
 
 
 def selected(reply: Reply) -> set[Key]:
-    """The keys of a selection; none where there is no selection."""
     return {(name, precedence(text)) for name, text in reply.get("selected", [])}
 
 
@@ -83,7 +73,6 @@ class Lock:
         self.replies: list[Reply] = []
 
     def ask(self, session: Asking) -> list[Reply]:
-        """The answers to its requests, without the revision."""
         replies = [it.copy() for it in session.ask(*self.requests)]
         for it in replies:
             it.pop("revision", 0)
@@ -102,8 +91,7 @@ class Lock:
 
 
 def roots(held: Mapping[str, Release]) -> list[str]:
-    """Names from which all of these releases are reached along their needs: those that no other one needs, then of each
-    circle one."""
+    """Names that lead to all of these along their needs: those that no other one needs, then one of each circle."""
     needed = {target for it in held.values() for target, _ in it.needs if target != it.name}
     found: list[str] = []
     reached: set[str] = set()
@@ -137,7 +125,6 @@ def needed(session: Asking, releases: Releases, kept: Collection[Key], bar: Bar)
 
 
 def commands_of(releases: Releases, kept: Collection[Key]) -> Iterator[Request]:
-    """The commands that publish what is kept, in the order of before, and yank what was yanked."""
     for key, it in releases.items():
         if key in kept:
             yield {"op": "publish", "name": it.name, "version": it.text, "needs": it.needs}

@@ -1,5 +1,4 @@
-"""What is done while the program is asked, and while its answer is explained: a terminal is told how long it takes, and
-what takes too long is ended."""
+"""While the program is asked or its answer explained: a terminal is told how long it takes, and too long is ended."""
 from __future__ import annotations
 
 import contextlib
@@ -7,19 +6,9 @@ import signal
 import threading
 import time
 
-from . import TYPE_CHECKING, bar, output
+from . import bar, output
 from .failures import Failed, Unanswered
-
-if TYPE_CHECKING:
-    from collections.abc import Iterator, Sequence
-    from typing import Protocol
-
-    from .shapes import Request
-
-    class Searching(Protocol):
-        """What can end its search."""
-
-        def end_search(self) -> None: ...
+from .shapes import Connected, Iterator, Request, Sequence, Session
 
 MOST_TOLD = 200  # letters of a request
 LEAST = 3  # seconds that an explanation has, however long the search took
@@ -28,7 +17,7 @@ LEAST = 3  # seconds that an explanation has, however long the search took
 class Limit:
     """Ends a search of a session after some seconds, if it has no answer by then; never where these are 0."""
 
-    def __init__(self, session: Searching, seconds: int) -> None:
+    def __init__(self, session: Session | Connected, seconds: int) -> None:
         self.session, self.seconds, self.lock = session, seconds, threading.Lock()
         self.is_answered = self.is_over = False
         self.timer = threading.Timer(seconds, self.end) if seconds else None
@@ -55,8 +44,7 @@ class Limit:
 
 
 class Alarm:
-    """Ends by an exception what the main thread does, if that is not done after some seconds; never where these are
-    0."""
+    """Ends what the main thread does by an exception, after some seconds; never where these are 0."""
 
     def __init__(self, seconds: float, why: str) -> None:
         self.seconds, self.why, self.is_set = seconds, why, False
@@ -85,8 +73,7 @@ def counted(seconds: int) -> str:
 
 
 @contextlib.contextmanager
-def asking(session: Searching, requests: Sequence[Request]) -> Iterator[None]:
-    """Meanwhile a session is asked."""
+def asking(session: Session | Connected, requests: Sequence[Request]) -> Iterator[None]:
     begun, is_search = time.monotonic(), all(it.get("op") == "resolve" for it in requests)
     seconds = output.chosen.seconds if is_search else 0
     for it in requests if output.chosen.is_verbose else ():
@@ -100,8 +87,7 @@ def asking(session: Searching, requests: Sequence[Request]) -> Iterator[None]:
 
 @contextlib.contextmanager
 def explaining(is_refused: bool, begun: float | None = None) -> Iterator[None]:
-    """Meanwhile an answer is explained. It may take what is left of the seconds that have begun then, else with the
-    command."""
+    """It may take what is left of the seconds that have begun then, else with the command."""
     seconds = output.chosen.seconds
     left = seconds and max(LEAST, seconds - (time.monotonic() - (begun or output.chosen.begun)))
     told = "there is no selection; to say why takes" if is_refused else "to explain that takes"

@@ -1,6 +1,5 @@
-"""Asks the program. A session that reads takes a journal as it stands at one moment, also while another one writes it,
-and needs neither its lock nor the right to write; one that writes holds the lock, and what it is told as accepted
-stands in the file."""
+"""Asks the program. A session that reads takes a journal as it stands at one moment and needs neither its lock nor the
+right to write; one that writes holds the lock, and what it is told as accepted stands in the file."""
 from __future__ import annotations
 
 import contextlib
@@ -10,28 +9,11 @@ import sys
 import threading
 import time
 
-from . import TYPE_CHECKING, bar, near_limits, tied
+from . import bar, near_limits, shapes, tied
 from .failures import Failed, InUse, Refused, Usage, one_line
 from .program import program
 from .searching import asking
-
-if TYPE_CHECKING:
-    from collections.abc import Collection, Iterator, Sequence
-    from typing import IO, Protocol, TypeVar
-
-    from . import shapes, shell
-    from .connected import Connected
-    from .shapes import Options, Reply, Request
-
-    class HasText(Protocol):
-        """What has a journal's text."""
-
-        @property
-        def text(self) -> bytes: ...
-
-        def journal(self) -> bytes: ...
-
-    Self = TypeVar("Self", bound="Session")
+from .shapes import IO, Collection, Connected, Iterator, Options, Reply, Request, Self, Sequence, Standing
 
 SECONDS = 10  # that a session waits for another one
 DEFAULT, VARIABLE, SERVICE = "registry.journal", "REGISTRY_JOURNAL", "REGISTRY_CONNECT"
@@ -53,18 +35,16 @@ REASONS = [
 ]
 
 
-standing: shell.Standing | None = None  # what a shell keeps open: see shell.py
+standing: Standing | None = None  # what a shell keeps open: see shell.py
 
 
 def journal_of(options: Options) -> str:
-    """The path of the journal that the words name, else that of the shell, else the environment, else the one in this
-    folder."""
+    """What the words name, else the shell, else the environment, else the one in this folder."""
     return options.journal or (standing and standing.path) or os.environ.get(VARIABLE) or DEFAULT
 
 
 def service_of(options: Options) -> str | None:
-    """The address of the service that the words name, else, where they name no journal, that of the shell or the
-    environment."""
+    """What the words name, else, where they name no journal, the shell or the environment."""
     if options.connect and options.journal:
         raise Usage("--connect can't be used with --journal: a service has its own journal")
     if options.connect or options.journal:
@@ -79,8 +59,7 @@ def patience_of(options: Options) -> float:
 
 
 def reading(options: Options) -> shapes.Reading:
-    """A session that reads. It answers `ask`, `each`, `journal`, `commands` and `close`, and one over a service answers
-    the same."""
+    """A session that reads; one over a service answers the same."""
     service, path = service_of(options), journal_of(options)
     if service:
         return connected(service)
@@ -88,7 +67,6 @@ def reading(options: Options) -> shapes.Reading:
 
 
 def writing(options: Options) -> shapes.Asking:
-    """A session whose commands are kept."""
     service, path, patience = service_of(options), journal_of(options), patience_of(options)
     if service:
         return connected(service)
@@ -116,8 +94,7 @@ def read_steady(path: str) -> tuple[bytes, bool]:
 
 
 def snapshot(path: str) -> bytes:
-    """The text of a journal as it stands, up to its last whole line, with an end. While a session writes it there is
-    none."""
+    """A journal up to its last whole line, with an end: while a session writes it there is none."""
     try:
         text, is_ended = read_steady(path)
     except FileNotFoundError:
@@ -171,8 +148,7 @@ class Session:
         self.hearing.start()
 
     def hear(self) -> None:
-        """Keeps why the program ends, and passes on what else is said on standard error, as how far it is where it is
-        built first."""
+        """Keeps why the program ends, and passes on what else it says, as how far it is where it is built first."""
         for line in self.process.stderr:
             text = line.decode(errors="replace")
             if reason(text, self.path):
@@ -182,7 +158,6 @@ class Session:
                 sys.stderr.flush()
 
     def each(self, requests: Sequence[Request]) -> Iterator[Reply]:
-        """The replies to requests, each as it comes."""
         import json
         text = b"".join(json.dumps(it, separators=(",", ":")).encode() + b"\n" for it in requests)
         threading.Thread(target=self.write, args=(text,), daemon=True).start()
@@ -200,7 +175,6 @@ class Session:
             pass  # who waits for a reply is told how the program ended
 
     def ask(self, *requests: Request) -> list[Reply]:
-        """The replies to requests, together."""
         with asking(self, requests):
             return list(self.each(requests))
 
@@ -209,7 +183,6 @@ class Session:
         self.process.kill()
 
     def ended(self) -> Failed:
-        """Why the program has ended, or is ended since it wrote no reply."""
         try:
             status = self.process.wait(timeout=1)
         except subprocess.TimeoutExpired:
@@ -221,15 +194,23 @@ class Session:
         how = f"the program {' '.join(program())} ended with status {status} before it had answered"
         return kind(reason(self.said, self.path) or how)
 
+    def journal(self) -> bytes:
+        """The journal's text: what was accepted stands in the file."""
+        return snapshot(self.path)
+
+    def commands(self) -> list[Request]:
+        import json
+
+        from .catalog import commands_in
+        return [json.loads(it) for it in commands_in(self.journal())]
+
     def close(self) -> None:
-        """Ends the input and waits for the program."""
         with contextlib.suppress(OSError):
             self.process.stdin.close()
         if self.process.stdout.read() or self.process.wait():
             raise self.ended()
 
     def leave(self) -> None:
-        """Ends the program, whatever it does."""
         if self.process.poll() is None:
             self.process.kill()
             self.process.wait()
@@ -254,25 +235,22 @@ class Session:
         """Tells on standard error where the journal is near a limit."""
 
 
-class Reading(Session):
-    """A session on a journal as it stood when this was begun, or as it is told to have stood."""
+class Over(Session):
+    """A session on a journal's text."""
 
+    def __init__(self, path: str, text: bytes) -> None:
+        with shared(text) as file:
+            super().__init__(path, [f"--load=/dev/fd/{file.fileno()}"], [file.fileno()])
+
+
+class Reading(Over):
     def __init__(self, path: str, text: bytes | None = None) -> None:
         self.text = snapshot(path) if text is None else text
-        with shared(self.text) as file:
-            super().__init__(path, [f"--load=/dev/fd/{file.fileno()}"], [file.fileno()])
+        super().__init__(path, self.text)
         self.warnings = list(near_limits.warnings(path, self.text))  # while the program loads it
 
-    def journal(self: HasText) -> bytes:
-        """The journal's text."""
+    def journal(self) -> bytes:
         return self.text
-
-    def commands(self: HasText) -> list[Request]:
-        """The accepted commands, in order."""
-        import json
-
-        from .catalog import commands_in
-        return [json.loads(it) for it in commands_in(self.journal())]
 
     def finish(self) -> None:
         """Returns once the program has loaded the journal: it finds what is at fault there."""
@@ -288,8 +266,7 @@ class Reading(Session):
 
 
 class Writing(Session):
-    """A session that goes on with a journal's file, or begins one. Where another session has that, it waits so many
-    seconds."""
+    """Goes on with a journal's file, or begins one; waits so many seconds where another session has that."""
 
     def __init__(self, path: str, patience: float = SECONDS) -> None:
         from .waiting import Turn

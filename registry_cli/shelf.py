@@ -5,21 +5,12 @@ import bisect
 
 from registryd_lines.nearest import nearest
 
-from . import TYPE_CHECKING
 from .check_derivation import NAME, admits, precedence, read_requirement, read_version
-from .indexes.index import Release, Unusable, folded, need
+from .indexes.index import Crate, Index, Notes, Release, Unusable, folded, need
 from .limits import MOST_COMMANDS, MOST_NEEDS, MOST_PACKAGES, MOST_VERSIONS
 from .needs import needs_of
 from .refusals import misspelled
-
-if TYPE_CHECKING:
-    from collections.abc import Callable, Collection, Iterable, Iterator, Mapping, Sequence
-
-    from .check_derivation import Version
-    from .indexes.index import Crate, Dependency, Index, Notes
-    from .shapes import Pairs, Request
-
-    Chosen = Mapping[str, Sequence[Release]]  # the releases by crate that are written
+from .shapes import Callable, Chosen, Collection, Dependency, Iterable, Iterator, Pairs, Precedence, Request, Sequence
 
 
 def merged(needs: Iterable[Dependency], spelled: Callable[[str], str]) -> Iterator[tuple[str, str, int]]:
@@ -34,8 +25,6 @@ def merged(needs: Iterable[Dependency], spelled: Callable[[str], str]) -> Iterat
 
 
 class Shelf:
-    """The releases of an index that the program accepts, by crate. They are read when they are asked for."""
-
     def __init__(self, index: Index) -> None:
         self.index = index
         self.crates: dict[str, Crate] = {}
@@ -50,7 +39,7 @@ class Shelf:
 
     def fitting(self, crate: Crate) -> list[Release]:
         """The releases that the rules accept, in order of publication: each precedence once, and as many as may be."""
-        held: dict[Version, Release] = {}
+        held: dict[Precedence, Release] = {}
         for release in crate.releases:
             version = read_version(release.version)
             if version is not None and version in held:
@@ -65,7 +54,7 @@ class Shelf:
             crate.notes.left_out(below, f"{crate.name} {held[version].version}")
         return [it for version, it in held.items() if version in kept]
 
-    def fit(self, crate: Crate, release: Release, version: Version | None) -> Release | None:
+    def fit(self, crate: Crate, release: Release, version: Precedence | None) -> Release | None:
         """A release with each dependency once; none where it has to be left out."""
         example = f"{crate.name} {release.version}"
         needs: list[Dependency] = []
@@ -92,8 +81,7 @@ class Shelf:
         return Release(release.version, needs, release.yanked)
 
     def newest(self, name: str, most: int) -> list[Release]:
-        """So many releases of a crate, the highest versions, those that are not yanked first; in order of
-        publication."""
+        """So many of the highest versions, those that are not yanked first; in order of publication."""
         releases = self.crate(name).releases
         if name not in self.ranks:
             ranked = sorted(releases, key=lambda it: (not it.yanked, precedence(it.version)), reverse=True)
@@ -102,8 +90,7 @@ class Shelf:
 
 
 def reach(shelf: Shelf, roots: Sequence[str], most: int) -> dict[str, list[Release]] | None:
-    """The releases by crate that are reached from crates along dependencies, where each crate has so many releases;
-    none where they are more than one session takes."""
+    """The releases that crates lead to, so many of each crate; none where they are more than one session takes."""
     chosen: dict[str, list[Release]] = {}
     named, waiting, commands = set(roots), list(roots), 0
     while waiting and commands <= MOST_COMMANDS and len(named) <= MOST_PACKAGES:
@@ -130,8 +117,7 @@ def choose(shelf: Shelf, roots: Sequence[str], most: int) -> tuple[dict[str, lis
 
 
 def commands_of(chosen: Chosen) -> Iterator[Request]:
-    """A publish line for each release, crate by crate in order of publication, and a yank line behind it where it is
-    yanked."""
+    """Crate by crate in order of publication, with a yank line right behind what is yanked."""
     for name, releases in chosen.items():
         for release in releases:
             needs = [list(it) for it in release.needs]
@@ -141,15 +127,13 @@ def commands_of(chosen: Chosen) -> Iterator[Request]:
 
 
 def other_spellings(chosen: Chosen, published: Collection[str]) -> list[tuple[str, str]]:
-    """The names that are taken or needed and of which a package is published that differs in `-` and `_` alone; each
-    with that."""
+    """The names of which a package is published that differs in `-` and `_` alone; each with that."""
     spelled = {folded(it): it for it in published}
     names = {*chosen, *(target for releases in chosen.values() for it in releases for target, _ in it.needs)}
     return sorted((it, spelled[folded(it)]) for it in names if it not in published and folded(it) in spelled)
 
 
 def counted(chosen: Chosen) -> str:
-    """How much is taken, in words."""
     releases = [it for held in chosen.values() for it in held]
     return f"{len(releases)} versions of {len(chosen)} crates, {sum(it.yanked for it in releases)} of them yanked"
 
@@ -190,7 +174,6 @@ def roots(index: Index, crates: Sequence[str] | None) -> list[Dependency]:
 
 
 def request(index: Index, needs: Sequence[Dependency], locked: Pairs) -> Request:
-    """A resolve line for what was begun with, locked to what Cargo.lock has."""
     if not needs:
         raise Unusable("there is nothing to ask for: name it by --from")
     for name, _ in needs[MOST_NEEDS:]:

@@ -1,5 +1,4 @@
-"""A shell: command lines one after the other, over one session that stays open. On a terminal they are typed, with a
-history and completion; else they are read to their end."""
+"""Command lines one after the other, over one session: typed with a history and completion, or read to their end."""
 from __future__ import annotations
 
 import contextlib
@@ -8,14 +7,10 @@ import shlex
 import signal
 import sys
 
-from . import TYPE_CHECKING, near_limits, output, session
+from . import near_limits, output, session
 from .failures import DONE, INTERRUPTED, USAGE, Refused
 from .main import EndedBySignal, guarded, status_of
-
-if TYPE_CHECKING:
-    from collections.abc import Callable, Iterable, Iterator, Sequence
-
-    from .shapes import Reply, Request
+from .shapes import Callable, Iterable, Iterator, Reply, Request, Sequence
 
 PROMPT, MOST_KEPT = "registry> ", 1000
 LEAVING = (["exit"], ["quit"])
@@ -25,16 +20,10 @@ TICK = 0.5  # seconds
 class Kept(session.Writing):
     """The session that stays open. What a command does not read of its replies is read when that ends."""
     group = 0  # its own, since Ctrl-C at the prompt ends a line and no session
-    journal, commands = session.Reading.journal, session.Reading.commands
 
     def __init__(self, standing: Standing, patience: float) -> None:
         self.standing, self.waiting, self.is_writing = standing, 0, False
         super().__init__(standing.path, patience)
-
-    @property
-    def text(self) -> bytes:
-        """The journal as it stands: what was accepted stands in the file."""
-        return session.snapshot(self.path)
 
     def each(self, requests: Sequence[Request]) -> Iterator[Reply]:
         self.waiting += len(requests)
@@ -127,8 +116,7 @@ def typed() -> int:
 
 @contextlib.contextmanager
 def ticking() -> Iterator[None]:
-    """Wakes the wait for a key now and then: a signal that came just before that wait is heeded then, and not at the
-    next key."""
+    """Wakes the wait for a key now and then: so a signal that came just before it is heeded before the next key."""
     handler = signal.signal(signal.SIGALRM, lambda *_: None)
     signal.setitimer(signal.ITIMER_REAL, TICK, TICK)
     try:
@@ -139,8 +127,7 @@ def ticking() -> Iterator[None]:
 
 
 def words_of(line: str) -> list[str] | None:
-    """The words of a line, as a shell splits them; none where a quote does not end. The name of the command may stand
-    before them."""
+    """None where a quote does not end. The name of the command may stand before them."""
     try:
         words = shlex.split(line, comments=True)
     except ValueError:
@@ -150,7 +137,6 @@ def words_of(line: str) -> list[str] | None:
 
 
 def obey(words: list[str] | None) -> int:
-    """The status of one command line."""
     if words is None:
         return USAGE
     if words[:1] == ["shell"]:
@@ -170,7 +156,6 @@ def obey(words: list[str] | None) -> int:
 # ---- at a terminal
 
 def history() -> Callable[[], None]:
-    """Begins with the lines of before, and answers what keeps one more; nothing is kept where that can't be."""
     try:
         import readline
     except ImportError:

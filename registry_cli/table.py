@@ -1,16 +1,10 @@
-"""The subcommands of `registry`, with their words. What reads words, the help, the completions and the manual page are
-made of it."""
+"""The subcommands with their words: what reads words, the help, completions and the manual page are made of it."""
 from __future__ import annotations
 
 from collections import namedtuple
 
-from . import TYPE_CHECKING
 from .limits import MOST_VERSIONS
-
-if TYPE_CHECKING:
-    from typing import Union
-
-    Takes = Union[str, range, tuple[str, ...]]
+from .shapes import Takes
 
 # what a word or an option takes: for completion, and, where it is numbers or a tuple of words, for what is read
 FILE, FOLDER, PACKAGE, NEED, VERSION, TEXT = "file", "folder", "package", "need", "version", "text"
@@ -21,9 +15,8 @@ COLORS = ("auto", "always", "never")
 
 class Word(namedtuple("Word", "names about takes flag many kept_as default short",
                       defaults=[TEXT, "", "", "", None, ""])):
-    """A word of a subcommand, or an option where it has a flag, which in short is as -q. `many` says how many: one,
-    `?`, `*` or `+`, as argparse does. `kept_as` is the name under which its value is found where its own can't be one,
-    and `default` its value where it isn't given."""
+    """A word, or an option where it has a flag, in short as -q. `many` is one, `?`, `*` or `+`, as for argparse;
+    `kept_as` the name of its value where its own can't be that, and `default` its value where it isn't given."""
     names: tuple[str, ...]
     about: str
     takes: Takes
@@ -35,13 +28,11 @@ class Word(namedtuple("Word", "names about takes flag many kept_as default short
 
     @property
     def member(self) -> str:
-        """Where its value is found when the words were read."""
         return self.kept_as or (self.flag.lstrip("-") or self.names[0].lower()).replace("-", "_")
 
 
 class Subcommand(namedtuple("Subcommand", "name module summary words examples more", defaults=[""])):
-    """A name of one word or two, as `journal verify`; the module in `commands`; and `more` sentences for its help and
-    the manual page."""
+    """Of one word or two; `module` is one of `commands`, and `more` are sentences for its help and the manual page."""
     name: str
     module: str
     summary: str

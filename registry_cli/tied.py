@@ -1,14 +1,11 @@
 """Programs that end with the one that began them, however that one ends.
 
-The system sends a signal to whoever owns a pipe's end once nobody holds the other end any more. So a program inherits
-the one end and is made its owner, and whoever began it holds the other and closes it by ending, also by SIGKILL in the
-middle of a search. A process's death signal (`PR_SET_PDEATHSIG`) would come when the thread ends that began it, and
-would need code between fork and exec.
+The system sends a signal to the owner of a pipe's end once nobody holds the other end any more. So a program inherits
+one end as its owner, and whoever began it holds the other and closes it by ending, also by SIGKILL in the middle of a
+search. (A death signal, `PR_SET_PDEATHSIG`, would come when the thread ends that began it, and would need code between
+fork and exec.) A program that is not yet tied has been asked nothing: it ends with its closed input.
 
-A program that is begun and not yet tied has been asked nothing: it ends with its closed input.
-
-What is installed begins the program without its script, so glibc is asked here for huge pages, as `./registryd`
-does."""
+What is installed begins the program without its script, so glibc is asked here for huge pages, as that does."""
 from __future__ import annotations
 
 import contextlib
@@ -19,16 +16,7 @@ import signal
 import subprocess
 import threading
 
-from . import TYPE_CHECKING
-
-if TYPE_CHECKING:
-    from collections.abc import Callable, Collection, Mapping, Sequence
-    from typing import IO, Any, Protocol
-
-    class HasNumber(Protocol):
-        """A file, or a socket."""
-
-        def fileno(self) -> int: ...
+from .shapes import IO, Any, Callable, Collection, HasFileno, Mapping, Sequence
 
 TUNABLES, HUGE_PAGES = "GLIBC_TUNABLES", "glibc.malloc.hugetlb="
 
@@ -42,8 +30,7 @@ def environment() -> dict[str, str]:
 
 
 class Tied(subprocess.Popen):  # type: ignore[type-arg]  # of bytes, or of letters where `how` says text=True
-    """A program that is killed when this process ends, with all of its group where it has a group of its own. Where no
-    environment is given, it has that of `environment`."""
+    """It is killed when this process ends, with its group where it has its own. `env` is by default `environment()`."""
     stdin: IO[Any]  # each of these is there where a pipe was asked for
     stdout: IO[Any]
     stderr: IO[Any]
@@ -94,9 +81,8 @@ def run(words: Sequence[str], *, input: bytes | None = None, timeout: float | No
     return subprocess.CompletedProcess(words, running.returncode, *said)
 
 
-def when_unread(file: HasNumber, do: Callable[[], object]) -> None:
-    """Does this as soon as nobody can read any more what is written to a pipe or a socket. Where the file is something
-    else it is never done."""
+def when_unread(file: HasFileno, do: Callable[[], object]) -> None:
+    """Once nobody can read any more what is written to a pipe or a socket; of any other file that is never."""
     with contextlib.suppress(OSError, ValueError):
         watched = select.poll()
         watched.register(file.fileno(), 0)

@@ -1,8 +1,7 @@
 """Waiting for a journal that another session writes.
 
-Whoever waits first takes its turn: a lock of this command's own on the journal's file (`lockf`), beside the one that a
-session's program has (`flock`). So of many sessions one at a time begins its program, in no certain order. The system
-takes both locks off as soon as their process has ended."""
+Whoever waits first takes its turn: a lock of this command's own on the file (`lockf`), beside that of a session's
+program (`flock`). So one at a time begins its program. The system takes both off as soon as their process has ended."""
 from __future__ import annotations
 
 import contextlib
@@ -11,13 +10,10 @@ import os
 import time
 from collections import namedtuple
 
-from . import TYPE_CHECKING
 from .command_line import split
 from .failures import InUse, Usage
 from .output import Output
-
-if TYPE_CHECKING:
-    from io import FileIO
+from .shapes import FileIO
 
 LOOK, LONGEST, SILENT = 0.1, 0.5, 1  # seconds: between two looks, at most between two tries, and until it is told
 
@@ -28,7 +24,6 @@ class Holder(namedtuple("Holder", "pid words")):
     words: list[str]
 
     def __str__(self) -> str:
-        """Who it is, as far as that is known."""
         from registryd_lines.fault import shown
         name, *others = self.words or [""]
         command = shown(" ".join([os.path.basename(name), *others]))
@@ -56,7 +51,6 @@ def holding(path: str) -> int:
 
 
 def holder(path: str) -> Holder | None:
-    """Who has the lock of a file; none where the system doesn't tell."""
     pid = holding(path)
     with contextlib.suppress(OSError, ValueError):
         if pid:
@@ -79,8 +73,7 @@ def parent(pid: int) -> int:
 
 
 class Turn:
-    """A session's turn to begin its program, for which it waits so many seconds, and as long again for each other
-    session that has the journal meanwhile."""
+    """Waits so many seconds, and as long again for each other session that has the journal meanwhile."""
 
     def __init__(self, path: str, seconds: float) -> None:
         self.path, self.seconds, self.begun = path, seconds, time.monotonic()

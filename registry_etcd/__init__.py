@@ -1,2 +1,1 @@
-"""The journal of a registry in the cells of etcd, and fronts that answer lines by it. docs/SCALE.md tells how it is
-used."""
+"""The journal of a registry in the cells of etcd, and fronts that answer lines by it: see docs/SCALE.md."""

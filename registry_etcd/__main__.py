@@ -13,7 +13,9 @@ import argparse
 import contextlib
 import os
 import sys
-from typing import TYPE_CHECKING, NoReturn, cast
+from collections.abc import Callable
+from io import BufferedReader
+from typing import NoReturn, cast
 
 from registry_cli import tied
 from registry_cli.limits import MOST_WORKERS
@@ -24,24 +26,17 @@ from registry_etcd.gateway import Fault, Gateway, endpoints, tls_context
 from registry_etcd.replica import Replica
 from registry_etcd.snapshot import Snapshots, journal_text, load, read, read_journal, save, try_to_save
 
-if TYPE_CHECKING:
-    from collections.abc import Callable
-    from io import BufferedReader
-
 PROGRAM = os.path.join(os.path.dirname(os.path.dirname(os.path.realpath(__file__))), "registryd")
 MOST_SEAT = 2 ** 32 - 1  # an entry has no higher number
 MOST_SECONDS = 10 ** 9
 
 
 class Words(argparse.ArgumentParser):
-    """A parser whose faults are told in one line."""
-
     def error(self, message: str) -> NoReturn:
         self.exit(2, f"registryd-etcd: {visible(message)}: see registryd-etcd --help\n")
 
 
 def number(least: int, most: int) -> Callable[[str], int]:
-    """The reader of a word that is a whole number between these two."""
     def read(word: str) -> int:
         if not (word.isascii() and word.isdigit()) or not least <= int(word[:20]) <= most:
             raise argparse.ArgumentTypeError(f"'{word}' is no whole number from {least} to {most}")
@@ -50,7 +45,6 @@ def number(least: int, most: int) -> Callable[[str], int]:
 
 
 def seconds(word: str) -> float:
-    """Reads a word that is so many seconds."""
     try:
         found = float(word)
     except ValueError:
@@ -61,7 +55,6 @@ def seconds(word: str) -> float:
 
 
 def name(word: str) -> str:
-    """Reads a word that keys or entries will bear."""
     if not word or not word.isprintable():
         raise argparse.ArgumentTypeError(f"{word!r} is no name")
     return word
@@ -102,7 +95,6 @@ def reader_of_words() -> Words:
 
 
 def read_words() -> argparse.Namespace:
-    """What is asked, with the members' endpoints."""
     reader = reader_of_words()
     asked = reader.parse_args()
     if asked.journal and (asked.load or asked.what != "found"):
@@ -170,7 +162,6 @@ def main() -> int:
 
 
 def failed(why: str) -> int:
-    """Tells it in one line, where there is someone to tell."""
     with contextlib.suppress(OSError, AttributeError):
         sys.stderr.write(f"registryd-etcd: {visible(' '.join(why.split()))}\n")
         sys.stderr.flush()

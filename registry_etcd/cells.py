@@ -1,22 +1,17 @@
-"""A row of write-once cells in etcd: the entry at place 1 stands in the first, and the cell at place 0 says that there
-is a row.
+"""A row of write-once cells in etcd: the entry at place 1 stands in the first, and place 0 says that there is one.
 
-Two transactions write. `Cells.put` makes the cells behind one that is there, where none is; `Snapshots.renew` takes
-away those before one that stays. So the cells that stand are always those from one place to the last, without a hole,
-and a writer that was held up, however long, can't put anything in front of that or between."""
+Two transactions write. `Cells.put` makes cells behind one that is there, where none is; `Snapshots.renew` takes away
+those before one that stays. So the cells that stand are always those from one place to the last, without a hole, and a
+writer that was held up, however long, can't put anything in front of that or between."""
 from __future__ import annotations
 
 import json
 from base64 import b64decode
-from typing import TYPE_CHECKING, NamedTuple
+from collections.abc import Iterator, Sequence
+from typing import NamedTuple
 
 from registry_cli.check_derivation import COMMANDS, formed
-from registry_etcd.gateway import Fault, Unanswered, encoded, understood
-
-if TYPE_CHECKING:
-    from collections.abc import Iterator, Sequence
-
-    from registry_etcd.gateway import Gateway, Message
+from registry_etcd.gateway import Fault, Gateway, Message, Unanswered, encoded, understood
 
 FORMS = {form["op"]: form for form in COMMANDS}
 PAGE = 1024  # cells that one read brings at most
@@ -28,8 +23,7 @@ class Behind(Exception):
 
 
 class Entry(NamedTuple):
-    """A command, as the journal's file writes it, with who put it there; the command is none where nobody can read
-    it."""
+    """A command as the journal's file writes it, none where nobody can read it, and who put it there."""
     command: bytes | None
     seat: int
     writer: str
@@ -72,20 +66,16 @@ def read_entry(data: bytes) -> Entry:
 
 
 class Cells:
-    """The cells under one prefix."""
-
     def __init__(self, gateway: Gateway, prefix: str) -> None:
         self.gateway, self.prefix = gateway, prefix
 
     def elsewhere(self) -> Cells:
-        """The same cells, over a connection of its own."""
         return Cells(self.gateway.another(), self.prefix)
 
     def key(self, place: int) -> str:
         return encoded(f"{self.prefix}/cells/{place:08}".encode())
 
     def bounds(self, place: int) -> Message:
-        """The range of the keys from a place on."""
         return {"key": self.key(place), "range_end": encoded(f"{self.prefix}/cells0".encode())}
 
     def page(self, last: Cell) -> Message:
@@ -125,8 +115,7 @@ class Cells:
         return found
 
     def pages(self, last: Cell) -> Iterator[list[Cell]]:
-        """The cells behind one, page by page: all that etcd held when this call began, since its reads are
-        linearizable."""
+        """All that etcd held when this call began, since its reads are linearizable."""
         more = True
         while more:
             told = self.gateway.insist("/v3/kv/range", self.page(last))
@@ -136,8 +125,7 @@ class Cells:
 
     @understood()
     def put(self, last: Cell, entries: Sequence[Entry]) -> list[Cell]:
-        """Tries to put entries into the cells behind one. Answers the cells that stand there now, as far as it was
-        told: the own ones, those of others, or none, and then it is open what became of it."""
+        """Tries it. Answers what stands there: own cells, others', or none, and then it is open what became of it."""
         writes = [{"request_put": {"key": self.key(place), "value": encoded(entry_bytes(entry))}}
                   for place, entry in enumerate(entries, last.place + 1)]
         created: Message = {"target": "CREATE", "create_revision": 0}
@@ -160,7 +148,6 @@ class Cells:
 
     @understood()
     def news(self, told: Message) -> list[Cell]:
-        """The cells that were put by what a watch tells."""
         if told.get("canceled"):
             raise Unanswered("the watch has ended")
         return [self.cell(event["kv"]) for event in told.get("events", []) if event.get("type", "PUT") == "PUT"]

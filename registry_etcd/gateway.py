@@ -31,7 +31,6 @@ class Full(Fault):
 
 
 class Endpoint(NamedTuple):
-    """Where a member is asked."""
     is_secure: bool
     host: str
     port: int
@@ -43,8 +42,7 @@ LEAST_WAIT = 0.001  # since 0 would mean not to wait at all
 
 
 def endpoints(text: str, is_secure: bool = False) -> list[Endpoint]:
-    """The endpoints that a word names, with commas between them: addresses of http or https, or as etcdctl takes them
-    `HOST:PORT`, which are asked over TLS where that is said. Raises `ValueError` where one can't be an address."""
+    """Parted by commas: of http or https, or HOST:PORT as for etcdctl; `ValueError` where one can't be an address."""
     return [endpoint(word.strip(), is_secure) for word in text.split(",")]
 
 
@@ -130,7 +128,6 @@ class Gateway:
         self.silent_since: float | None = None  # when the first was asked of the requests since the last answer
 
     def another(self) -> Gateway:
-        """The same members, asked over a connection of its own."""
         return Gateway(self.members, self.context, self.timeout, self.patience)
 
     def connect(self) -> Plain | Secure:
@@ -157,7 +154,6 @@ class Gateway:
         self.silent_since = None
 
     def post(self, path: str, asked: Message, end: float) -> http.client.HTTPResponse:
-        """Sends one request, and answers the response, whose status is 200."""
         try:
             self.connection = self.connection or self.connect()
             self.connection.request("POST", path, json.dumps(asked).encode(), {"Content-Type": "application/json"})
@@ -173,7 +169,6 @@ class Gateway:
         raise refusal(told)
 
     def once(self, path: str, asked: Message) -> Message:
-        """Asks one member, once."""
         begun = time.monotonic()
         if self.silent_since is None:
             self.silent_since = begun
@@ -192,8 +187,7 @@ class Gateway:
         return said
 
     def insist(self, path: str, asked: Message) -> Message:
-        """Asks until a member answers: for what may be done twice. What was asked before in vain counts as waiting
-        too."""
+        """For what may be done twice. What was asked before in vain counts as waiting too."""
         pause = 0.01
         why: Unanswered | None = None
         while True:
@@ -237,8 +231,7 @@ class Gateway:
             raise Full("etcd holds as much as it may")
 
     def give_back(self, revision: int) -> None:
-        """Has the members forget what is past at a revision, give back the room of that, and take their alarms back.
-        One that doesn't answer is passed over."""
+        """Gives back the room of what is past, and ends alarms. A member that doesn't answer is passed over."""
         every = self.patient(self.members)
         with contextlib.suppress(Fault):  # it was forgotten before
             every.insist("/v3/kv/compaction", {"revision": revision, "physical": True})
@@ -265,7 +258,6 @@ def keep_alive(connection: socket.socket) -> None:
 
 
 def refusal(body: bytes) -> Unanswered | Fault:
-    """What a response of another status than 200 means."""
     try:
         said = json.loads(body)
         text, code = str(said.get("error")), said.get("code")

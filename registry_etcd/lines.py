@@ -20,16 +20,13 @@ REQUESTS = (b'{"op":"resolve",', b'{"op": "resolve",')
 
 
 class Line:
-    """A request line with its number, and the command that it gives."""
-
     def __init__(self, number: int, text: bytes) -> None:
         self.number, self.text = number, text
         self.op, self.command = read_line(text)
 
 
 def read_line(text: bytes) -> tuple[str | None, bytes | None]:
-    """What a line asks, as far as a front has to know: the word of its `op`, and its line in a journal where it is a
-    command."""
+    """The word of its `op`, and its line in a journal where it is a command: all that a front has to know."""
     if text.startswith(REQUESTS) and text.count(b'"op"') == 1 and b"\\" not in text:
         # no second member can be the `op`, whatever follows: if this is a line at all, then a request
         return "resolve", None

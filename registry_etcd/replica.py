@@ -18,8 +18,7 @@ class Lost(Exception):
 
 
 class Replica:
-    """The program with a journal. It is asked by lines and answers each; which of them change it is the caller's
-    affair."""
+    """It is asked by lines and answers each; which of them change it is the caller's affair."""
 
     def __init__(self, program: str, workers: int, journal: bytes) -> None:
         self.owed = 0  # how many lines have no reply so far
@@ -43,7 +42,6 @@ class Replica:
                 raise Fault(f"{program} answers as registryd does not")
 
     def ended(self) -> str:
-        """What the child, which has ended, said of it."""
         _, stderr = self.child.communicate()
         return stderr.decode(errors="replace").strip() or f"it ended with status {self.child.returncode}"
 
@@ -86,8 +84,7 @@ class Replica:
             self.begun.append(rest)
 
     def each(self, lines: Iterable[bytes]) -> Iterator[list[bytes]]:
-        """The replies to lines, in order, in lists as they come. What was sent before and has no reply yet is passed
-        over."""
+        """In lists as they come. What was sent before and has no reply yet is passed over."""
         for _ in self.replies():
             pass
         for piece in pieces(lines):
@@ -95,19 +92,16 @@ class Replica:
             yield from self.replies()
 
     def answer(self, lines: Iterable[bytes]) -> list[bytes]:
-        """The replies to lines, in order."""
         return [reply for some in self.each(lines) for reply in some]
 
     def end(self) -> None:
-        """Ends the child, whatever state it is in."""
         self.child.kill()
         self.child.communicate()
         self.child.let_go()
 
 
 def pieces(lines: Iterable[bytes]) -> Iterator[list[bytes]]:
-    """Lines in pieces that fit into a pipe, or of one line: so the child never waits for a reader while it is written
-    to."""
+    """What fits into a pipe, or one line: so the child never waits for a reader while it is written to."""
     piece: list[bytes] = []
     held = 0
     for line in lines:

@@ -8,13 +8,12 @@ What takes lines in and keeps the journal:
     keeper.py      the one program that keeps the journal: it answers commands
     supervisor.py  has a program begun again whenever it ends
     child.py       the program as a child of this process
-    journal.py     the journal's file while it grows
+    journal.py     the journal's file while it grows, and as it stood at a revision
 
 What stands on that:
 
     ops.py         what a line asks
     disk.py        what is told while the journal can't be written, and until when
-    copies.py      the journal as it stood at a revision
     times.py       when each command was accepted
     readers.py     programs that follow the keeper: they answer requests, so that no client can stop the others
     pages.py       the page in a browser, by a process of its own

@@ -33,7 +33,6 @@ class Child(asyncio.Protocol):
         self.gone: asyncio.Future[str] = asyncio.get_running_loop().create_future()
 
     async def begin(self) -> int:
-        """Answers the revision of the journal, once that is loaded."""
         loop = asyncio.get_running_loop()
         loaded: asyncio.Future[bytes] = loop.create_future()
         self.ask(EMPTY, loaded.set_result)
@@ -67,7 +66,6 @@ class Child(asyncio.Protocol):
                 self.waiting.popleft()(line)
 
     def connection_lost(self, _: Exception | None) -> None:
-        """Its output has ended, and so does it."""
         assert self.input and self.process.stderr
         if not self.input.is_closing():
             self.input.abort()
@@ -79,7 +77,6 @@ class Child(asyncio.Protocol):
         self.gone.set_result(why)
 
     def end_input(self) -> None:
-        """Has it end once it has answered all that it was asked."""
         assert self.input
         self.input.close()
 

@@ -22,7 +22,6 @@ OTHER = b'{"error":19,"name":"BadLine","revision":%d}\n'
 
 
 class Asked:
-    """A line under way."""
     __slots__ = ("client", "line", "op", "since", "reply", "revision", "tries")
 
     def __init__(self, client: Client, line: bytes, op: str) -> None:
@@ -37,15 +36,13 @@ class Asked:
             service.loop.call_soon(self.client.tell)
 
     def fail(self) -> None:
-        """A program ended, or the service does: of a command it is not known whether it was accepted, so none behind it
-        is carried out."""
+        """Of a command it is not known whether it was accepted, so none behind it is carried out."""
         self.client.takes_commands &= self.op in READS
         self.answer(UNAVAILABLE % self.client.service.keeper.revision)
 
 
 class Client(asyncio.Protocol):
-    """One of them. Its lines wait in `lines`, and are in `asked` from when they are asked until their replies are
-    written."""
+    """Its lines wait in `lines`, and are in `asked` from when they are asked until their replies are written."""
     transport: asyncio.Transport
     name: str
     number: int
@@ -84,8 +81,7 @@ class Client(asyncio.Protocol):
         self.go_on()
 
     def leave_to_others(self, lines: Sequence[bytes], rest: bytes) -> None:
-        """A connection on which HTTP is spoken is that of a page. Any other is closed, so nothing that stands in what
-        was meant for someone else is carried out."""
+        """HTTP is that of a page. Any other connection is closed: what is meant for others is not carried out."""
         if self.speaks == HTTP:
             self.service.clients.discard(self)
             self.service.pages.add(self.transport)
@@ -102,7 +98,6 @@ class Client(asyncio.Protocol):
         return True
 
     def end_input(self) -> None:
-        """Takes no more lines: once those that came are answered, the connection is closed."""
         self.is_ended = True
         self.go_on()
 
@@ -128,7 +123,6 @@ class Client(asyncio.Protocol):
     # ---- what it is answered
 
     def tell(self) -> None:
-        """Writes the replies that are next."""
         told = []
         while self.asked and (reply := self.asked[0].reply) is not None:
             self.asked.popleft()

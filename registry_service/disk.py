@@ -28,9 +28,8 @@ class Disk:
         self.looking: asyncio.Task[None] | None = None
 
     def judge(self, said: str) -> bool:
-        """Takes what the program said as it ended. Answers whether it could not write the journal and nothing stands
-        there that was not told: then no command that was under way is accepted, ever, since the next program cuts off
-        what is no whole line."""
+        """Takes what the program said as it ended. Answers whether no command that was under way is accepted, ever:
+        nothing untold stands in the journal, and the next program cuts off what is no whole line."""
         found = SAID.fullmatch(said)
         self.fault = f"the journal {found[1]}" if found else ""
         if self.fault and not self.looking:
@@ -41,13 +40,11 @@ class Disk:
             return False
 
     def refusal(self) -> bytes:
-        """What a command is answered."""
         reply = {"error": 503, "name": "DiskFault", "reason": self.fault, "revision": self.keeper.revision}
         return json.dumps(reply, separators=(",", ":")).encode()
 
     async def look(self) -> None:
-        """Looks again and again whether there is room for a line. Then the program is ended, for which it has to write
-        the journal's end: where it can, nothing is at fault any more."""
+        """Once there is room for a line the program is ended: where it can write the end, nothing is at fault."""
         pause, longest = LOOKS
         while self.fault:
             await asyncio.sleep(pause)
@@ -58,8 +55,7 @@ class Disk:
 
 
 def has_room(path: str) -> bool:
-    """Whether a line of any length could be written beside a journal, at its end. Where no other file may be written,
-    the program has to try."""
+    """For a line of any length. Where no other file may be written, the program has to try."""
     try:
         with tempfile.TemporaryFile(dir=os.path.dirname(os.path.realpath(path))) as file:
             file.seek(os.path.getsize(path))

@@ -1,5 +1,4 @@
-"""What a service answers over HTTP: its counts, whether it is well, the journal as it stands, and when its commands
-came."""
+"""What a service answers over HTTP: its counts, whether it is well, the journal, and when its commands came."""
 from __future__ import annotations
 
 import asyncio
@@ -13,7 +12,7 @@ from typing import TYPE_CHECKING
 from registry_cli.failures import Failed
 from registry_cli.program import version
 
-from .copies import Copy
+from .journal import Copy
 from .ops import BLANKS
 
 if TYPE_CHECKING:
@@ -62,7 +61,6 @@ def page(service: Service, transport: asyncio.BaseTransport | None = None,
 
 
 async def tell(service: Service, reader: asyncio.StreamReader, writer: asyncio.StreamWriter) -> None:
-    """Answers one request, if it comes and the answer is read in time."""
     place = writer.transport
     is_guest = place not in service.pages and not service.takes_in(place, service.pages)
     try:
@@ -94,8 +92,7 @@ async def head_of(reader: asyncio.StreamReader) -> bytes:
 
 
 async def guest_head(service: Service, reader: asyncio.StreamReader, place: asyncio.BaseTransport) -> bytes:
-    """The same of a connection for which there is no room; nothing where there are too many of these, or it takes too
-    long."""
+    """The same where there is no room; nothing where there are too many of these, or it takes too long."""
     if len(service.guests) < MOST_GUESTS:
         service.guests.add(place)
         with contextlib.suppress(TimeoutError):
@@ -164,7 +161,6 @@ def metrics(service: Service, build: str) -> bytes:
 
 
 def build() -> str:
-    """What the program says of itself, as labels."""
     said = ""
     with contextlib.suppress(Failed, OSError):
         said = version()
@@ -175,7 +171,6 @@ def build() -> str:
 
 
 def free_bytes(path: str) -> int:
-    """How many bytes may still be written beside a journal."""
     try:
         found = os.statvfs(os.path.dirname(os.path.realpath(path)))
     except OSError:
@@ -184,7 +179,6 @@ def free_bytes(path: str) -> int:
 
 
 def memory(service: Service) -> dict[str, int]:
-    """The resident memory of the service and of its programs, as far as they run."""
     programs = [("service", os.getpid())]
     programs += [(each.role, each.child.process.pid) for each in (service.keeper, *service.readers.readers)
                  if each.child]

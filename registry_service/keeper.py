@@ -5,19 +5,16 @@ import asyncio
 import hashlib
 import json
 from collections.abc import Callable
-from typing import TYPE_CHECKING
 
 from registry_cli.catalog import line_of
 
 from .child import ACCEPTED, Child
+from .client import Asked
 from .disk import Disk
 from .journal import commands_after
 from .ops import COMMANDS
 from .supervisor import Supervisor
-
-if TYPE_CHECKING:
-    from .client import Asked
-    from .watching import Watch
+from .watching import Watch
 
 
 class Keeper(Supervisor[Child]):
@@ -41,7 +38,6 @@ class Keeper(Supervisor[Child]):
             self.child.ask(asked.line, self.answered)
 
     def accept(self, line: bytes) -> None:
-        """A command, by its line in the journal."""
         self.revision += 1
         self.accepted.update(line)
         for follow in self.followers:
@@ -62,8 +58,7 @@ class Keeper(Supervisor[Child]):
         asked.answer(reply)
 
     def lost(self) -> None:
-        """Nothing is known of what was under way, and so that is told, unless it is certain that no command of it is
-        accepted."""
+        """Tells that nothing is known of what was under way, unless it is certain that nothing of it is accepted."""
         is_certain = self.disk.judge(self.program.said)
         while self.asked:
             asked = self.asked.popleft()

@@ -23,8 +23,7 @@ def op_of(line: bytes) -> str | None:
 
 
 def op_of_long(line: bytes) -> str | None:
-    """The same of a long line, without a look at what else it says. Where its one `op` stands within another value, or
-    is none, the line is at fault whoever reads it."""
+    """Where the one `op` of a long line stands within another value, or is none, it is at fault whoever reads it."""
     line = line.translate(None, BLANKS)
     for escape, letter in ESCAPES if b"\\" in line else ():
         line = line.replace(escape, letter)

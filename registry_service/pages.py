@@ -1,5 +1,4 @@
-"""The page in a browser that a service shows, by a process of its own: however much that reads and searches, it holds
-up no client."""
+"""The page that a service shows, by a process of its own: however much that searches, it holds up no client."""
 from __future__ import annotations
 
 import asyncio
@@ -8,19 +7,15 @@ import sys
 from collections.abc import Iterable
 from concurrent.futures import ThreadPoolExecutor
 from subprocess import PIPE
-from typing import TYPE_CHECKING
 from urllib.parse import urlsplit
 
 from registry_cli.failures import Failed
+from registry_cli.output import Output
 from registry_cli.program import TOP
 from registry_cli.tied import Tied
 
+from .service import Service
 from .supervisor import Supervisor
-
-if TYPE_CHECKING:
-    from registry_cli.output import Output
-
-    from .service import Service
 
 
 class Shower:

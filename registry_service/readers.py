@@ -13,20 +13,16 @@ import select
 from collections import deque
 from collections.abc import Sequence
 from itertools import islice
-from typing import TYPE_CHECKING
 
 from registry_cli.session import shared
+from registry_cli.shapes import Served
 
 from .child import ACCEPTED, Child
-from .client import UNAVAILABLE
-from .copies import text_at
+from .client import UNAVAILABLE, Asked, Client
+from .journal import text_at
+from .keeper import Keeper
 from .supervisor import Supervisor
-
-if TYPE_CHECKING:
-    from .client import Asked, Client
-    from .keeper import Keeper
-    from .service import Options
-    from .watching import Watch
+from .watching import Watch
 
 WINDOW = 4  # requests that the quick reader is asked at once
 PATIENCE = 0.25  # seconds; a request is slow once a reader has been at it for longer,
@@ -51,8 +47,7 @@ def give_up(asked: Asked) -> None:
 
 
 class Reader(Supervisor[Child]):
-    """One of them. `asked` has the requests that it is to answer, in order. `seen` is the first of these at the last
-    look."""
+    """`asked` has the requests that it is to answer, in order; `seen` was the first of these at the last look."""
     role = "reader"
 
     def __init__(self, pool: Readers, is_quick: bool) -> None:
@@ -80,7 +75,6 @@ class Reader(Supervisor[Child]):
             self.kill()
 
     def takes(self, asked: Asked) -> bool:
-        """Whether it may be asked this."""
         return not (self.is_quick and asked.client.is_slow)
 
     def ask(self, requests: Sequence[Asked]) -> None:
@@ -131,7 +125,7 @@ class Reader(Supervisor[Child]):
 class Readers:
     """All of them. Requests wait here, one of each client, until a reader takes them."""
 
-    def __init__(self, path: str, watch: Watch, keeper: Keeper, options: Options) -> None:
+    def __init__(self, path: str, watch: Watch, keeper: Keeper, options: Served) -> None:
         self.path, self.watch, self.keeper, self.limit = path, watch, keeper, options.seconds
         self.words = [f"--workers={options.workers}"]
         if options.budget is not None:
@@ -146,8 +140,7 @@ class Readers:
         self.look()
 
     def look(self) -> None:
-        """Ends what takes too long. What waits has a little longer than a search: so it may be asked after one that
-        took all of its time."""
+        """What waits has a little longer than a search: so it may be asked after one that took all of its time."""
         self.looking = self.loop.call_later(TICK, self.look)
         for reader in self.readers:
             reader.look()
@@ -185,7 +178,6 @@ class Readers:
             self.waiting.popleft().fail()
 
     def ready(self) -> int:
-        """How many of them can be asked."""
         return sum(reader.is_up for reader in self.readers)
 
     def are_late(self) -> bool:

@@ -7,9 +7,12 @@ from collections.abc import Callable, Iterator
 from contextlib import ExitStack
 from functools import partial
 from pathlib import Path
-from typing import TYPE_CHECKING, Protocol, TypeVar
+from socket import socket
+from typing import TypeVar
 
-from .client import Client
+from registry_cli.shapes import Served
+
+from .client import Asked, Client
 from .http import MOST_COPIES, build, page
 from .keeper import Keeper
 from .ops import READS
@@ -18,37 +21,16 @@ from .sockets import allow_files, bound_file, bound_port, notify
 from .times import Times
 from .watching import Watch
 
-if TYPE_CHECKING:
-    from socket import socket
-
-    from .client import Asked
-
 # seconds: for what is under way, then for the journal's end, then for replies to be read
 GRACE, ENDING, READING = 2.0, 1.5, 1.0
 
 Connection = TypeVar("Connection")
 
 
-class Options(Protocol):
-    """The words of `registry serve`."""
-    socket: str | None
-    mode: str
-    group: str | None
-    port: int | None
-    metrics_port: int | None
-    page_port: int | None
-    log: str | None
-    clients: int
-    readers: int
-    workers: int
-    budget: int | None
-    seconds: float
-
-
 class Service:
     """One over a journal, as the words of `registry serve` want it. Its clients call `takes_in` and `ask`."""
 
-    def __init__(self, path: str, options: Options) -> None:
+    def __init__(self, path: str, options: Served) -> None:
         self.path, self.options, self.loop = path, options, asyncio.get_running_loop()
         self.now, self.is_stopping, self.is_over = self.loop.time, False, False
         self.servers: list[asyncio.Server] = []
@@ -63,8 +45,7 @@ class Service:
         self.times, self.readers = Times(self.keeper), Readers(path, self.watch, self.keeper, options)
 
     def takes_in(self, connection: Connection, kind: set[Connection]) -> bool:
-        """Whether a connection that comes has a place among those of its kind: not where as many clients as are allowed
-        are connected."""
+        """Whether a connection has a place: not where as many clients as are allowed are connected."""
         if len(self.clients) + len(self.pages) >= self.options.clients or self.is_stopping:
             return False
         kind.add(connection)
@@ -93,7 +74,6 @@ class Service:
         notify("READY=1")
 
     def sockets(self) -> Iterator[tuple[socket, Callable[[Service], asyncio.BaseProtocol]]]:
-        """The sockets to listen on, each with what is spoken there."""
         if self.options.socket:
             yield bound_file(self.options.socket, int(self.options.mode, 8), self.options.group), Client
             self.left.callback(Path(self.options.socket).unlink, missing_ok=True)
@@ -103,8 +83,7 @@ class Service:
             yield bound_port(self.options.metrics_port), page
 
     async def end(self) -> bool:
-        """Takes no more lines, has those that came answered, and ends the journal, whose program may just be begun
-        again; answers whether that has its end."""
+        """Has what came answered, and ends the journal, whose program may just begin; answers whether that is so."""
         self.is_stopping = True
         notify("STOPPING=1")
         for server in self.servers:

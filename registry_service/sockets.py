@@ -21,8 +21,7 @@ def bound_port(port: int) -> socket.socket:
 
 
 def bound_file(path: str, mode: int, group: str | None) -> socket.socket:
-    """A socket in the file system, in place of one that nobody listens on. Until mode and group are set nobody else
-    reaches it."""
+    """In place of one that nobody listens on. Until mode and group are set nobody else reaches it."""
     bound = socket.socket(socket.AF_UNIX)
     try:
         owners = grp.getgrnam(group).gr_gid if group else -1

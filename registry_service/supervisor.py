@@ -3,13 +3,12 @@ from __future__ import annotations
 
 import asyncio
 from collections import deque
-from typing import TYPE_CHECKING, Generic, Protocol, TypeVar
+from typing import Generic, Protocol, TypeVar
 
 from registry_cli.failures import Failed
 
-if TYPE_CHECKING:
-    from .client import Asked
-    from .watching import Watch
+from .client import Asked
+from .watching import Watch
 
 PAUSES = 0.05, 5  # seconds before it is begun again: the first time, and at most
 
@@ -25,8 +24,7 @@ Program = TypeVar("Program", bound=Supervised)
 
 
 class Supervisor(Generic[Program]):
-    """Has one child at a time, and the lines that it is to answer. Who inherits says how it is begun, which may fail
-    (`begin`), and what becomes of its lines then, or where it ends (`lost`)."""
+    """Has one child at a time. Heirs say how it is begun (`begin`), and what becomes of its lines then (`lost`)."""
     role = ""
 
     def __init__(self, path: str, watch: Watch) -> None:
@@ -37,7 +35,6 @@ class Supervisor(Generic[Program]):
 
     @property
     def program(self) -> Program:
-        """The child, where one was begun."""
         assert self.child is not None
         return self.child
 
@@ -75,8 +72,7 @@ class Supervisor(Generic[Program]):
                 why, pause = str(fault), min(2 * pause, longest)
 
     def begun(self, revision: int, wanted: int) -> None:
-        """It has loaded the journal at this revision: that is the one that was told, unless another program has changed
-        the file."""
+        """At the revision that was told, unless another program has changed the file."""
         if revision != wanted:
             raise Failed(f"{self.path} was changed by another program: {wanted} commands were accepted, "
                          f"and it has {revision}")

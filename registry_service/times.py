@@ -1,5 +1,4 @@
-"""When each command was accepted. The journal has no times: of what stood there before the service began none is
-known."""
+"""When each command was accepted: not known of what stood in the journal before the service began."""
 from __future__ import annotations
 
 from datetime import datetime, timezone
@@ -7,7 +6,7 @@ from datetime import datetime, timezone
 from registry_cli import TYPE_CHECKING
 from registry_cli.catalog import commands_in
 
-from .copies import text_at
+from .journal import text_at
 
 if TYPE_CHECKING:
     from .keeper import Keeper
@@ -20,8 +19,6 @@ def now() -> str:
 
 
 class Times:
-    """Those of a keeper, by revision."""
-
     def __init__(self, keeper: Keeper) -> None:
         self.keeper = keeper
         self.known: dict[int, str] = {}

@@ -1,6 +1,7 @@
 """What is seen of a service from outside: its log, and its counts in the text form of Prometheus."""
 from __future__ import annotations
 
+import asyncio
 import contextlib
 import json
 import re
@@ -11,16 +12,11 @@ from bisect import bisect_left
 from collections import Counter, defaultdict
 from collections.abc import Iterator, Mapping
 from itertools import accumulate, count
-from typing import TYPE_CHECKING
+from typing import TextIO
 
+from .client import Asked, Client
 from .ops import COMMANDS
 from .times import now
-
-if TYPE_CHECKING:
-    import asyncio
-    from typing import TextIO
-
-    from .client import Asked, Client
 
 Family = tuple[str, str]  # a name with labels
 
@@ -67,7 +63,6 @@ def name_of(transport: asyncio.BaseTransport) -> str:
 
 
 def command_of(line: bytes) -> dict[str, str]:
-    """The package and the version that a command names, as the log has them; nothing where it can't be read."""
     try:
         found = json.loads(line)
         return {"package": shown(found["name"]), "version": shown(found["version"])}
@@ -76,8 +71,7 @@ def command_of(line: bytes) -> dict[str, str]:
 
 
 def shown(value: str) -> str:
-    """A value as the log has it: what is more than letters and digits stands in quotes, so nobody writes a line of the
-    log."""
+    """What is more than letters and digits stands in quotes, so nobody writes a line of the log."""
     return value if PLAIN.fullmatch(value) else json.dumps(value[:MOST_SHOWN])
 
 
@@ -111,7 +105,6 @@ class Watch:
             print(now(), *(f"{name}={value}" for name, value in values.items()), file=self.file, flush=True)
 
     def named(self, transport: asyncio.BaseTransport) -> tuple[str, int]:
-        """What a connection is called in the log, and its number."""
         return name_of(transport), next(self.connections)
 
     def timed(self, seconds: float, family: str, labels: str = "") -> None:
@@ -119,7 +112,6 @@ class Watch:
         self.taken[family, labels][bisect_left(BUCKETS, seconds)] += 1
 
     def answered(self, asked: Asked, seconds: float) -> None:
-        """A line has its reply."""
         assert asked.reply is not None
         op, error = asked.op or "other", ERROR.match(asked.reply)
         self.timed(seconds, "request_seconds", f'op="{op}"')
@@ -150,7 +142,6 @@ class Watch:
         self.note(event="cut-off", client=client.name, why="'it does not read its replies'")
 
     def text(self, gauges: Mapping[str, int | dict[str, int]]) -> bytes:
-        """All counts, with these that are not counted here: numbers, or numbers by labels."""
         lines = []
         for name, about in COUNTS.items():
             gauge = gauges.get(name, 0)

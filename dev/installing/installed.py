@@ -35,7 +35,7 @@ PACKAGES, RUNNER = ("registry_cli", "registry_etcd", "registry_service", "regist
 # Files that are copied as they stand, by the folder that they go to; what stands in a folder of the sources keeps its
 # place in it.
 COPIES = {
-    LIB: ["registry_cli/page/files/*"],
+    LIB: ["registry_cli/page/files/*", "registry_cli/completions/*"],
     SHARE: ["docs/*.schema.json", "clients/python/pyproject.toml", "clients/python/*/*.py", "clients/python/*/py.typed",
             "clients/c/*.[ch]", "clients/c/*.rs", "clients/c/*.txt", "clients/c/*.in", "clients/c/Makefile",
             "clients/c/run_example",
@@ -212,9 +212,9 @@ def systemd_pieces(prefix: str) -> Iterator[Piece]:
 def pieces(program: Program, prefix: str = "/usr", library: Library | None = None) -> list[Piece]:
     """All that is installed, for one program below a prefix, and with a library for C, if there is one."""
     shells = []
-    for shell, text in completion.SCRIPTS.items():
+    for shell in completion.SHELLS:
         places = [COMPLETIONS[shell].format(name) for name in (COMMAND, NAME)]
-        shells.append(Piece(places[0], text.encode()))
+        shells.append(Piece(places[0], completion.script(shell).encode()))
         if shell != "zsh":  # the same one completes both; zsh finds it by the words of its first line
             shells.append(Piece(places[1], link=posixpath.basename(places[0])))
     every = [*program_pieces(program), *library_pieces(library), *command_pieces(), *tool_pieces(), *page_pieces(),

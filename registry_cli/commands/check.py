@@ -7,18 +7,9 @@ import sys
 from registryd_lines.fault import placed
 from registryd_lines.judging import faults
 
-from .. import TYPE_CHECKING
 from ..failures import DONE, REFUSED, Failed, one_line
 from ..limits import MOST_LINE_BYTES
-
-if TYPE_CHECKING:
-    from collections.abc import Iterator
-    from typing import BinaryIO
-
-    from registryd_lines.fault import Fault
-
-    from ..output import Output
-    from ..shapes import Options
+from ..shapes import BinaryIO, Fault, Iterator, Options, Output
 
 
 def run(options: Options, out: Output) -> int:

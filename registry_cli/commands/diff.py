@@ -1,13 +1,9 @@
 """`registry diff`: what changed between two lock files."""
 from __future__ import annotations
 
-from .. import TYPE_CHECKING
 from ..failures import REFUSED
 from ..locks import changed, changes, coloured, counted, lock_of
-
-if TYPE_CHECKING:
-    from ..output import Output
-    from ..shapes import Options
+from ..shapes import Options, Output
 
 
 def run(options: Options, out: Output) -> int | None:

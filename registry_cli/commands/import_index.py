@@ -3,9 +3,8 @@ from __future__ import annotations
 
 import json
 import sys
+from itertools import combinations
 
-from .. import TYPE_CHECKING
-from ..alone import Alone
 from ..bar import Bar, busy
 from ..failures import REFUSED, Refused, Usage
 from ..files import read_bounded, write_file
@@ -18,16 +17,14 @@ from ..needs import needs_path, write_needs
 from ..output import aside
 from ..refusals import english, listed
 from ..session import reading, writing
+from ..shapes import (
+    Asking, Cause, Chosen, Dependency, Index, Iterable, Iterator, Options, Output, Pairs, Reply, Request, Sequence,
+)
 from ..shelf import Shelf, choose, commands_of, counted, noted, other_spellings, request, roots
 
-if TYPE_CHECKING:
-    from collections.abc import Sequence
-
-    from ..indexes.index import Dependency, Index
-    from ..output import Output
-    from ..shapes import Options, Pairs, Reply, Request
-    from ..shelf import Chosen
-
+MOST_ASKED = 2_000  # of more packages some are asked, at even distances
+BUDGET = 100  # conflicts of each request
+MOST_TOLD = 5
 THERE_ALREADY = (7, 12)  # it is published, or yanked, already
 
 
@@ -56,7 +53,6 @@ def run(options: Options, out: Output) -> int | None:
 
 
 def opened(options: Options) -> Index:
-    """The reader of the index that is named."""
     if options.subcommand == "import crates-io":
         return CratesIo(options.dir)
     if options.subcommand == "import cargo":
@@ -68,7 +64,6 @@ def opened(options: Options) -> Index:
 
 def published(options: Options, commands: Sequence[Request], chosen: Chosen, notes: Sequence[str],
               out: Output) -> int | None:
-    """Sends the commands, and says what became of them."""
     reply: Reply = {"revision": 0}
     refused: dict[str, list[str]] = {}
     accepted, there, bar = 0, 0, Bar("importing", len(commands))
@@ -98,8 +93,7 @@ def published(options: Options, commands: Sequence[Request], chosen: Chosen, not
 
 
 def refuse_spellings(pairs: Sequence[tuple[str, str]]) -> None:
-    """Ends an import of names that the journal has in another spelling: what is needed would be found under one of the
-    two alone."""
+    """Ends an import of names that the journal spells otherwise: what is needed would be found under one alone."""
     if pairs:
         name, there = pairs[0]
         count = f"{len(pairs)} name{'s differ' if len(pairs) > 1 else ' differs'}"
@@ -109,7 +103,59 @@ def refuse_spellings(pairs: Sequence[tuple[str, str]]) -> None:
 
 
 def keep(path: str, locked: Pairs, needs: Sequence[Dependency], out: Output) -> None:
-    """Writes what Cargo.lock has as a lock file, and beside it the needs that were begun with."""
     write_file(path, lock_text(Lock(dict(locked))))
     write_needs(needs_path(path), [list(it) for it in needs])
     out.note(f"{path} and {needs_path(path)} are written")
+
+
+# ---- how many packages have a selection where each is requested alone
+
+class Alone:
+    """The answers to a request for each of some packages alone."""
+
+    def __init__(self, session: Asking, names: Sequence[str]) -> None:
+        self.count, self.asked = len(names), names[::-(-len(names) // MOST_ASKED) or 1]
+        self.selected = 0
+        self.obstacles: dict[str, list[str]] = {}  # by obstacle the packages in whose way it stands
+        bar = Bar("requesting each alone", len(self.asked))
+        for name, reply in zip(self.asked, session.each([request_alone(it) for it in self.asked])):
+            bar.step()
+            self.selected += "selected" in reply
+            for it in obstacles(reply):
+                self.obstacles.setdefault(it, []).append(name)
+        bar.end()
+
+    def ranked(self) -> list[tuple[str, list[str]]]:
+        return sorted(self.obstacles.items(), key=lambda it: -len(it[1]))
+
+    def lines(self) -> Iterator[str]:
+        some = "" if len(self.asked) == self.count else f" that were requested, of {self.count}"
+        yield f"resolve alone: {self.selected} of {len(self.asked)} crates{some}"
+        for told, names in self.ranked()[:MOST_TOLD]:
+            yield f"in the way: {told}: {len(names)} (first: {names[0]})"
+
+    def value(self) -> dict[str, object]:
+        return {"requested": len(self.asked), "selected": self.selected,
+                "in_the_way": [{"what": told, "packages": names} for told, names in self.ranked()]}
+
+
+def request_alone(name: str) -> Request:
+    return {"op": "resolve", "needs": [[name, "*"]], "explain": True, "budget": BUDGET}
+
+
+def obstacles(reply: Reply) -> list[str]:
+    """What a refusal rests on: unmet requirements and packages needed in two versions, else what is yanked."""
+    if "error" in reply:
+        return [f"no answer within {BUDGET} conflicts" if reply["error"] == 22 else reply["name"]]
+    facts = [cause for row in reply.get("derivation", []) for cause in row["causes"]]
+    premises = [it for it in facts if it.get("fact") == "premise"]
+    told = [f'no version of {it["target"]} meets "{it["need"]}"' for it in premises if not it["within"]]
+    targets = dict.fromkeys(it["target"] for it in premises)
+    told += [f"two versions of {it} are needed, and a selection has one" for it in targets if is_divided(it, premises)]
+    yanked = [f"versions of {it['name']} are yanked" for it in facts if it.get("fact") == "disallowed"]
+    return list(dict.fromkeys(told or yanked))
+
+
+def is_divided(target: str, premises: Iterable[Cause]) -> bool:
+    within = {frozenset(it["within"]) for it in premises if it["target"] == target and it["within"]}
+    return any(one.isdisjoint(other) for one, other in combinations(within, 2))

@@ -1,34 +1,21 @@
 """`registry journal renew`: a journal with less in it, which selects each lock file as before."""
 from __future__ import annotations
 
-from .. import TYPE_CHECKING, near_limits
+from .. import near_limits
 from ..bar import Bar
 from ..catalog import line_of
 from ..failures import Failed, Refused
-from ..journal_file import CUT, FAULTY, Over, fault_line, journal_text, read_journal, refuse_existing, write_new
+from ..journal_file import CUT, FAULTY, Journal, fault_line, journal_text, read_journal, refuse_existing, write_new
 from ..locks import lock_of
 from ..renewal import Lock, commands_of, needed, newest, releases_of
-
-if TYPE_CHECKING:
-    from collections.abc import Collection, Iterator, Mapping, Sequence
-    from typing import Protocol
-
-    from ..journal_file import Journal
-    from ..output import Output
-    from ..renewal import Key, Releases
-
-    class Options(Protocol):
-        """The words of this subcommand, whose --lock takes many."""
-        old: str
-        new: str
-        lock: list[str] | None
-        newest: int | None
+from ..session import Over
+from ..shapes import Collection, Iterator, Key, Mapping, Output, Releases, RenewOptions, Sequence
 
 NEWEST = 3
 MOST_TOLD = 20
 
 
-def run(options: Options, out: Output) -> None:
+def run(options: RenewOptions, out: Output) -> None:
     old = read_journal(options.old)
     if old.state == FAULTY:
         remedy = f"`registry journal repair {options.old}` keeps what is before it"
@@ -55,7 +42,6 @@ def run(options: Options, out: Output) -> None:
 
 
 def chosen(path: str, old: Journal, releases: Releases, locks: Sequence[Lock], most: int) -> set[Key]:
-    """The keys of the releases that are kept."""
     kept = newest(releases, most)
     bar = Bar("asking what is needed", len(kept))
     with Over(path, journal_text(old.items)) as session:
@@ -76,7 +62,6 @@ def checked(path: str, text: bytes, locks: Sequence[Lock]) -> None:
 
 
 def left_out(releases: Releases, kept: Collection[Key]) -> dict[str, list[str]]:
-    """The versions that are left out, by package."""
     left: dict[str, list[str]] = {}
     for key, it in releases.items():
         if key not in kept:
@@ -103,6 +88,5 @@ def in_words(path: str, old: Journal, commands: Sequence[object], releases: Rele
 
 
 def in_short(left: Sequence[str], count: int) -> str:
-    """The versions of a package that are left out, of many the first and the last."""
     named = ", ".join(left) if len(left) <= 3 else f"{left[0]} to {left[-1]}, {len(left)} of {count} versions"
     return named + (": none is kept" if len(left) == count else "")

@@ -5,16 +5,9 @@ import json
 
 from registryd_lines.fault import shown
 
-from .. import TYPE_CHECKING
 from ..failures import Failed, Refused
-from ..journal_file import FAULTY, fault_line, read_journal, refuse_existing, write_new
-
-if TYPE_CHECKING:
-    from collections.abc import Iterator, Sequence
-
-    from ..journal_file import Journal
-    from ..output import Output
-    from ..shapes import Options
+from ..journal_file import FAULTY, Journal, fault_line, read_journal, refuse_existing, write_new
+from ..shapes import Iterator, Options, Output, Sequence
 
 MOST_TOLD, MOST_SHOWN = 10, 200
 
@@ -41,7 +34,6 @@ def run(options: Options, out: Output) -> None:
 
 
 def dropped_lines(journal: Journal) -> list[tuple[int, bytes]]:
-    """What stands from the line at fault on, each with the number of its line, but for an end."""
     rest = list(enumerate(journal.lines[journal.line - 1:], journal.line))
     return [(number, it) for number, it in rest if it and not it.startswith(b"end ")]
 
@@ -64,7 +56,6 @@ def counted(count: int, what: str) -> str:
 
 
 def described(line: bytes) -> str:
-    """A dropped line in short."""
     try:
         item = json.loads(line)
         if item["op"] == "learn":

@@ -1,16 +1,10 @@
 """`registry journal verify`: what stands in a journal's file, and what is wrong with it."""
 from __future__ import annotations
 
-from .. import TYPE_CHECKING, near_limits
+from .. import near_limits
 from ..failures import REFUSED
-from ..journal_file import CUT, FAULTY, read_journal
-
-if TYPE_CHECKING:
-    from collections.abc import Iterator
-
-    from ..journal_file import Journal
-    from ..output import Output
-    from ..shapes import Options
+from ..journal_file import CUT, FAULTY, Journal, read_journal
+from ..shapes import Iterator, Options, Output
 
 
 def run(options: Options, out: Output) -> int | None:
@@ -40,7 +34,6 @@ def in_words(path: str, journal: Journal, reason: str | None, out: Output) -> It
 
 
 def counted(journal: Journal) -> str:
-    """What a journal has, in words."""
     if not journal.format:
         return "no items"
     commands = f"{journal.revision:,} command{'' if journal.revision == 1 else 's'}"

@@ -3,20 +3,13 @@ from __future__ import annotations
 
 from collections import namedtuple
 
-from .. import TYPE_CHECKING
+from .. import shapes
 from ..failures import REFUSED
 from ..session import Reading, reading
-
-if TYPE_CHECKING:
-    from collections.abc import Iterator, Sequence
-
-    from .. import shapes
-    from ..output import Output
-    from ..shapes import Listed, Options
+from ..shapes import Iterator, Listed, Options, Output, Sequence
 
 
 class Row(namedtuple("Row", "name newest versions yanked")):
-    """A package in short: its newest version, and how many it has."""
     name: str
     newest: str
     versions: int
@@ -43,8 +36,7 @@ def run(options: Options, out: Output) -> int | None:
 
 
 def packages_of(session: shapes.Reading) -> dict[str, list[Listed]]:
-    """By package its versions. They are read from a journal while the program loads it; what holds one already is asked
-    for them."""
+    """A journal is read while the program loads it; what holds one already is asked for its list."""
     if isinstance(session, Reading):
         from ..catalog import listed_in
         return listed_in(session.text)
@@ -53,7 +45,6 @@ def packages_of(session: shapes.Reading) -> dict[str, list[Listed]]:
 
 
 def row(name: str, versions: Sequence[Listed]) -> Row:
-    """A package in short."""
     from ..catalog import rank
     held = [text for text, is_yanked in versions if not is_yanked]
     newest = max(held or [text for text, _ in versions], key=rank)
@@ -61,7 +52,6 @@ def row(name: str, versions: Sequence[Listed]) -> Row:
 
 
 def lines(rows: Sequence[Row], out: Output) -> Iterator[str]:
-    """The packages one below another."""
     wide = max((len(it.name) for it in rows), default=0)
     newest = max((len(it.newest) for it in rows), default=0)
     for it in rows:

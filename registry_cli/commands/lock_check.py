@@ -1,23 +1,15 @@
 """`registry lock check`: whether a lock file holds: each version is there, and the lock has what each needs."""
 from __future__ import annotations
 
-from .. import TYPE_CHECKING
 from ..catalog import catalog_of
 from ..check_derivation import admits, precedence
 from ..failures import REFUSED
 from ..locks import lock_of
 from ..needs import needs_known
-from ..packages import registry_in
+from ..packages import registry_in, walk
 from ..refusals import accepted, listed, not_there
 from ..session import reading
-from ..walk import walk
-
-if TYPE_CHECKING:
-    from collections.abc import Iterable, Iterator, Mapping, Sequence
-
-    from ..check_derivation import Registry
-    from ..output import Output
-    from ..shapes import Listed, Options, Request
+from ..shapes import Iterable, Iterator, Listed, Mapping, Options, Output, Registry, Request, Sequence
 
 
 def run(options: Options, out: Output) -> int | None:
@@ -40,7 +32,6 @@ def run(options: Options, out: Output) -> int | None:
 
 def faults(lock: Mapping[str, str], needs: Iterable[Sequence[str]], registry: Registry,
            packages: Mapping[str, Sequence[Listed]]) -> Iterator[tuple[str, str]]:
-    """What is not there, yanked or not met, each with the package that is at fault."""
     for name, text in sorted(lock.items()):
         release = registry.find(name, text)
         if release is None:
@@ -54,7 +45,6 @@ def faults(lock: Mapping[str, str], needs: Iterable[Sequence[str]], registry: Re
 
 
 def unmet(who: str, needs: Iterable[Sequence[str]], lock: Mapping[str, str]) -> Iterator[tuple[str, str]]:
-    """Of some needs each that the lock does not meet, with its package."""
     for target, requirement in needs:
         if target not in lock or not admits(requirement, precedence(lock[target])):
             yield target, f"{who} depends on {target} {requirement}; the lock has {lock.get(target, f'no {target}')}"

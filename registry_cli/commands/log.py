@@ -7,15 +7,11 @@ import time
 
 from registry_service.times import UNKNOWN, now
 
-from .. import TYPE_CHECKING
 from ..catalog import commands_in
 from ..connected import PATIENCE, page_of_service
 from ..failures import Failed
 from ..session import journal_of, service_of, snapshot
-
-if TYPE_CHECKING:
-    from ..output import Output
-    from ..shapes import Options, Request
+from ..shapes import Options, Output, Request
 
 PAUSE = 0.5  # seconds between two looks
 
@@ -35,8 +31,7 @@ class File:
 
 
 class Service:
-    """The journal of a service, which knows the times of what it accepted itself. Where it has answered, it is waited
-    for later on."""
+    """A service knows the times of what it accepted itself. Once it has answered, it is waited for later on."""
 
     def __init__(self, address: str) -> None:
         self.address, self.patience = address, 0

@@ -3,26 +3,20 @@ from __future__ import annotations
 
 from collections import namedtuple
 
-from .. import TYPE_CHECKING
 from ..cases import Case
 from ..catalog import catalog_of
 from ..check_derivation import RELEASE, admits, precedence
 from ..derivation import Dependency
 from ..failures import REFUSED, Refused
 from ..locks import DEFAULT, changes, lock_of
+from ..needs import answered, refused, request_of
 from ..packages import registry_in
 from ..questions import Question
 from ..refusals import listed
-from ..requests import answered, refused, request_of
 from ..session import reading
-
-if TYPE_CHECKING:
-    from collections.abc import Iterable, Iterator, Mapping, Sequence
-
-    from ..check_derivation import Registry
-    from ..derivation import Derivation, Fact
-    from ..output import Output
-    from ..shapes import Listed, Options, Reading, Reply, Request
+from ..shapes import (
+    Derivation, Fact, Iterable, Iterator, Listed, Mapping, Options, Output, Reading, Registry, Reply, Request, Sequence,
+)
 
 BUDGET = 10_000  # conflicts of each question what holds a version back
 MOST_TOLD = 2
@@ -58,7 +52,6 @@ def run(options: Options, out: Output) -> int | None:
 
 def outdated(session: Reading, lock: Mapping[str, str], request: Request, reply: Reply,
              packages: Mapping[str, Sequence[Listed]], budget: int) -> list[Row]:
-    """A row for each package that an upgrade would change, or of which there is a newer version."""
     catalog, selected = catalog_of(session.journal()), dict(reply["selected"])
     rows: list[Row] = []
     limited: Request = {"budget": budget}
@@ -82,20 +75,17 @@ def is_newer(one: str | None, other: str) -> bool:
 
 
 def state_of(versions: Iterable[Listed], locked: str) -> str:
-    """What is worth knowing of a locked version itself."""
     found = [is_yanked for text, is_yanked in versions if precedence(text) == precedence(locked)]
     return "not published" if not found else "yanked" if found[0] else ""
 
 
 def newest_of(versions: Iterable[Listed], locked: str) -> str | None:
-    """The newest version that is not yanked; a pre-release only where the locked one is one too."""
     pre_too = precedence(locked)[3] != RELEASE
     fitting = [text for text, yanked in versions if not yanked and (pre_too or precedence(text)[3] == RELEASE)]
     return max(fitting, key=precedence) if fitting else None
 
 
 def held_back(case: Case, name: str, newest: str, selected: Mapping[str, str]) -> str:
-    """In one line why the newest version of a package is not selected."""
     needs = dict(case.request["needs"])
     if name in needs and not admits(needs[name], precedence(newest)):
         return f"the request depends on {name} {needs[name]}"
@@ -111,14 +101,12 @@ def held_back(case: Case, name: str, newest: str, selected: Mapping[str, str]) -
 
 
 def short(texts: Sequence[str]) -> list[str]:
-    """The first of some texts, and how many more there are."""
     others = len(texts) - MOST_TOLD
     return [*texts[:MOST_TOLD], *([f"{others} more"] if others > 0 else [])]
 
 
 def facts(derivation: Derivation, name: str) -> list[str]:
-    """What rules a version out: the dependencies on the package first, then its own, what these miss, and those that
-    they meet."""
+    """What rules it out: dependencies on the package first, then its own, what these miss, and those that they meet."""
     every = (fact for step in derivation.reached() for fact in step.facts())
     found = list(dict.fromkeys(it for it in every if isinstance(it, Dependency) or it.lacking))
     own = {it.target for it in found if isinstance(it, Dependency) and it.whose[0] == name}
@@ -132,7 +120,6 @@ def facts(derivation: Derivation, name: str) -> list[str]:
 
 
 def lines(rows: Sequence[Row], out: Output) -> Iterator[str]:
-    """The rows as a table."""
     cells = [[it.name, it.locked + (f" ({it.state})" if it.state else ""), it.allowed or "-", it.newest or "-",
               it.held_back_by or ""] for it in ([HEADS, *rows] if rows else [])]
     wide = [max(map(len, column)) for column in zip(*cells)]

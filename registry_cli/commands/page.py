@@ -3,22 +3,17 @@ from __future__ import annotations
 
 import sys
 
-from .. import TYPE_CHECKING
 from ..page.journal import File, Journal, Service
 from ..page.server import Server
 from ..session import journal_of, service_of
-
-if TYPE_CHECKING:
-    from ..output import Output
-    from ..page.journal import Source
-    from ..shapes import Options
+from ..shapes import Options, Output
 
 SECONDS = 10  # that a search may take
 
 
 def run(options: Options, out: Output) -> None:
     service = service_of(options)
-    source: Source = File(journal_of(options))
+    source: File | Service = File(journal_of(options))
     if service:
         source = Service(service)
     journal = Journal(source, options.seconds or SECONDS)

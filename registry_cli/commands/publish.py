@@ -1,14 +1,10 @@
 """`registry publish`: a version of a package, with what it needs."""
 from __future__ import annotations
 
-from .. import TYPE_CHECKING
 from ..needs import needs_of
 from ..refusals import accepted, listed, unpublished
 from ..session import writing
-
-if TYPE_CHECKING:
-    from ..output import Output
-    from ..shapes import Named, Request
+from ..shapes import Named, Output, Request
 
 
 def run(options: Named, out: Output) -> None:

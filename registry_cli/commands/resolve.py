@@ -3,21 +3,13 @@ from __future__ import annotations
 
 import os
 
-from .. import TYPE_CHECKING
 from ..failures import Refused
 from ..files import write_file
 from ..locks import DEFAULT, changed, changes, counted, lock_of, lock_text, renewed
-from ..needs import needs_path, write_needs
+from ..needs import answered, lock_notes, needs_path, refused, request_of, write_needs
 from ..output import say
-from ..requests import answered, lock_notes, refused, request_of
 from ..session import reading
-
-if TYPE_CHECKING:
-    from collections.abc import Mapping
-
-    from ..locks import Lock
-    from ..output import Output
-    from ..shapes import Options, Reply, Request
+from ..shapes import Lock, Mapping, Options, Output, Reply, Request
 
 
 def run(options: Options, out: Output) -> int | None:
@@ -45,7 +37,6 @@ def run(options: Options, out: Output) -> int | None:
 
 
 def keep_to(path: str, lock: Mapping[str, str], selected: Mapping[str, str]) -> None:
-    """Refuses a selection that is not what the lock file has."""
     lines = changes(lock, selected)
     if lines:
         say(*lines)
@@ -54,7 +45,6 @@ def keep_to(path: str, lock: Mapping[str, str], selected: Mapping[str, str]) -> 
 
 
 def keep(path: str, before: Lock | None, request: Request, reply: Reply, out: Output) -> None:
-    """Writes the lock file, and beside it what it was made for."""
     lock = renewed(before, request, reply)
     write_file(path, lock_text(lock))
     lines = changes(before.selected if before else {}, lock.selected)

@@ -6,13 +6,9 @@ import asyncio
 from registry_service.pages import show
 from registry_service.service import Service
 
-from .. import TYPE_CHECKING
 from ..failures import FAILED, Usage
 from ..session import journal_of
-
-if TYPE_CHECKING:
-    from ..output import Output
-    from ..shapes import Served
+from ..shapes import Output, Served
 
 
 def run(options: Served, out: Output) -> int | None:
@@ -26,7 +22,6 @@ def run(options: Served, out: Output) -> int | None:
 
 
 async def serve(path: str, options: Served, out: Output) -> int | None:
-    """The exit status of a service."""
     service = Service(path, options)
     with service.left:
         await service.begin()

@@ -1,12 +1,9 @@
 """`registry shell`: a prompt for the other subcommands, over one session that stays open."""
 from __future__ import annotations
 
-from .. import TYPE_CHECKING, shell
+from .. import shell
 from ..session import journal_of, patience_of, service_of
-
-if TYPE_CHECKING:
-    from ..output import Output
-    from ..shapes import Options
+from ..shapes import Options, Output
 
 
 def run(options: Options, out: Output) -> int:

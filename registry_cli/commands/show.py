@@ -1,15 +1,8 @@
 """`registry show`: one package, its versions, what the newest needs, and who needs it."""
 from __future__ import annotations
 
-from .. import TYPE_CHECKING
 from ..session import reading
-
-if TYPE_CHECKING:
-    from collections.abc import Iterable, Iterator, Sequence
-
-    from ..catalog import Version
-    from ..output import Output
-    from ..shapes import Named
+from ..shapes import Iterable, Iterator, Named, Output, Sequence, Version
 
 
 def run(options: Named, out: Output) -> None:

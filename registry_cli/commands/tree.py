@@ -1,22 +1,14 @@
-"""`registry tree`: a selection as a tree of who needs whom, each package with its needs once, as `cargo tree` shows
-it."""
+"""`registry tree`: a selection as a tree, each package with its needs once, as `cargo tree` shows it."""
 from __future__ import annotations
 
 import sys
 
 from registryd_lines.nearest import nearest
 
-from .. import TYPE_CHECKING
 from ..failures import Refused
-from ..needs import need_of
-from ..requests import answered, needs_of, refused, request_of
+from ..needs import answered, need_of, needs_selected, refused, request_of
 from ..session import reading
-
-if TYPE_CHECKING:
-    from collections.abc import Callable, Iterator, Mapping, Sequence
-
-    from ..output import Output
-    from ..shapes import Options
+from ..shapes import Callable, Iterator, Mapping, Options, Output, Sequence
 
 UTF8 = {"tee": "├── ", "corner": "└── ", "down": "│   ", "none": "    "}
 ASCII = {"tee": "|-- ", "corner": "`-- ", "down": "|   ", "none": "    "}
@@ -29,7 +21,7 @@ def run(options: Options, out: Output) -> int | None:
         if "selected" not in reply:
             return refused(session, request, reply, out)
         selected = dict(reply["selected"])
-        needs = needs_of(session, selected)
+        needs = needs_selected(session, selected)
     below = {name: sorted(dict(needs[name])) for name in selected}
     roots = [name for name, _ in request["needs"]]
     if options.invert:
@@ -44,7 +36,6 @@ def run(options: Options, out: Output) -> int | None:
 
 
 def inverted(below: Mapping[str, Sequence[str]]) -> dict[str, list[str]]:
-    """By package those that need it."""
     above: dict[str, list[str]] = {name: [] for name in below}
     for name, targets in below.items():
         for it in targets:
@@ -53,7 +44,6 @@ def inverted(below: Mapping[str, Sequence[str]]) -> dict[str, list[str]]:
 
 
 def strokes() -> dict[str, str]:
-    """What branches are drawn with: letters that standard output has."""
     try:
         "".join(UTF8.values()).encode(sys.stdout.encoding or "ascii")
     except (UnicodeEncodeError, LookupError):

@@ -3,29 +3,16 @@ from __future__ import annotations
 
 from registryd_lines.nearest import nearest
 
-from .. import TYPE_CHECKING
 from ..failures import REFUSED, Refused
 from ..files import write_file
 from ..locks import DEFAULT, changed, changes, coloured, counted, lock_of, lock_text, renewed
-from ..needs import need_of
+from ..needs import answered, lock_notes, need_of, refused, request_of
 from ..refusals import listed
-from ..requests import answered, lock_notes, refused, request_of
 from ..session import reading
-
-if TYPE_CHECKING:
-    from collections.abc import Collection, Mapping
-    from typing import Protocol
-
-    from .. import shapes
-    from ..locks import Lock
-    from ..output import Output
-
-    class Options(shapes.Options, Protocol):
-        """The words of this subcommand, which takes many packages."""
-        name: list[str]
+from ..shapes import Collection, Lock, Mapping, Output, UpgradeOptions
 
 
-def run(options: Options, out: Output) -> int | None:
+def run(options: UpgradeOptions, out: Output) -> int | None:
     path = options.lock or DEFAULT
     before = lock_of(path)
     lock = before.selected
@@ -54,8 +41,7 @@ def without(path: str, lock: Mapping[str, str], names: Collection[str]) -> dict[
     return {name: text for name, text in lock.items() if names and name not in names}
 
 
-def settled(path: str, before: Lock, new: Lock, options: Options, out: Output) -> int | None:
-    """Writes the change where it is wanted, and says whether it is written."""
+def settled(path: str, before: Lock, new: Lock, options: UpgradeOptions, out: Output) -> int | None:
     if new == before:
         out.note(f"nothing changes in {path}")
         return None

@@ -1,43 +1,27 @@
-"""`registry why`: in English why a request is refused, or why a version was not selected, from a derivation that is
-checked first."""
+"""`registry why`: why a request is refused, or a version not selected, from a derivation that is checked first."""
 from __future__ import annotations
 
-import math
 import sys
 import time
-from typing import TYPE_CHECKING, cast
+from typing import cast
 
-from ..cases import Case
+from ..cases import Case, tell
 from ..catalog import catalog_of
 from ..check_derivation import NAME, RESOLVE, demand, formed, read_journal, read_lines, read_version
 from ..check_derivation import session as replayed
-from ..explaining import tell
 from ..failures import Failed, Refused, Usage
 from ..files import write_file
-from ..folding import MOST_SHOWN
+from ..needs import request_of
 from ..packages import registry_in
-from ..requests import request_of
 from ..searching import explaining
 from ..session import Session, reading
-
-if TYPE_CHECKING:
-    from collections.abc import Callable, Iterable, Iterator, Sequence
-    from typing import Protocol
-
-    from .. import shapes
-    from ..check_derivation import Registry
-    from ..output import Output
-    from ..shapes import Object, Reply, Request
-
-    class Options(shapes.Options, Protocol):
-        """The words of this subcommand; `version` is what --not takes, a name and a version."""
-        version: list[str] | None
+from ..shapes import Callable, Iterable, Iterator, Object, Output, Registry, Reply, Request, Sequence, WhyOptions
 
 
-def run(options: Options, out: Output) -> None:
+def run(options: WhyOptions, out: Output) -> None:
     """Tells what is asked, and draws it; of several requests the last one."""
     check(options)
-    picture: Callable[[float], str] | None = None
+    picture: Callable[[bool], str] | None = None
     answers: list[dict[str, object]] = []
     begun: float | None = None
     try:
@@ -55,13 +39,12 @@ def run(options: Options, out: Output) -> None:
         if options.picture:
             if picture is None:
                 raise Refused("there is nothing to draw")
-            write_file(options.picture, picture(math.inf if options.unfolded else MOST_SHOWN))
+            write_file(options.picture, picture(options.unfolded))
     except ValueError as fault:  # what the checker of derivations says of files that can't be judged
         raise Refused(str(fault)) from None
 
 
-def check(options: Options) -> None:
-    """Words that don't go together."""
+def check(options: WhyOptions) -> None:
     if options.asked and (options.need or options.lock or options.budget is not None):
         raise Usage("--asked reads requests from a file: it can't be used with needs, --lock or --budget")
     if options.asked and options.connect:
@@ -74,8 +57,7 @@ def check(options: Options) -> None:
         raise Usage(f"these are not a package name and a version: {' '.join(options.version)!r}")
 
 
-def of_journal(options: Options) -> Iterator[Case]:
-    """The one case of needs that are asked for now."""
+def of_journal(options: WhyOptions) -> Iterator[Case]:
     request = request_of(options)
     with reading(options) as session:
         names = set(catalog_of(session.journal()).lines)
@@ -89,8 +71,7 @@ def of_journal(options: Options) -> Iterator[Case]:
                    put=lambda question, it: question.put(session.commands(), it | budget, registry))
 
 
-def of_files(options: Options, asked: str) -> Iterator[Case]:
-    """The cases of a session's request lines and replies that are asked for, each at its place."""
+def of_files(options: WhyOptions, asked: str) -> Iterator[Case]:
     lines = lines_of(asked)
     requests, replies = (lines, lines_of(options.told)) if options.told else (lines[::2], lines[1::2])
     counts = f"{len(requests)} request lines and {len(replies)} replies"
@@ -122,12 +103,11 @@ def case_of(number: int, request: Object, reply: Object, registry: Registry, com
 
 
 def asked_anew(commands: Iterable[Request], request: Request) -> Reply:
-    """The reply of a program that has obeyed these commands."""
     with Session("the session", ()) as session:
         return session.ask(*commands, request)[-1]
 
 
-def wanted_of(options: Options, requests: Sequence[Object], replies: Sequence[Object]) -> set[int]:
+def wanted_of(options: WhyOptions, requests: Sequence[Object], replies: Sequence[Object]) -> set[int]:
     """The numbers of the requests that are told: one that is named, or the last one, or each that was refused."""
     lines = enumerate(zip(requests, replies), 1)
     answered = [number for number, (request, reply) in lines if is_answered(request, reply)]
@@ -143,6 +123,5 @@ def wanted_of(options: Options, requests: Sequence[Object], replies: Sequence[Ob
 
 
 def is_answered(request: Object, reply: Object) -> bool:
-    """Whether a line is a request to select versions, and its reply a selection or a refusal."""
     is_request = formed({"lock": [], "explain": True, "budget": 0, **request}, RESOLVE)
     return is_request and ("selected" in reply or reply.get("refused") is True)

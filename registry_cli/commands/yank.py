@@ -1,13 +1,9 @@
 """`registry yank` and `registry unyank`: whether a version may be selected anew."""
 from __future__ import annotations
 
-from .. import TYPE_CHECKING
 from ..refusals import accepted
 from ..session import writing
-
-if TYPE_CHECKING:
-    from ..output import Output
-    from ..shapes import Named, Request
+from ..shapes import Named, Output, Request
 
 
 def run(options: Named, out: Output) -> None:

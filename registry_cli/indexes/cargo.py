@@ -6,19 +6,10 @@ import tomllib
 from collections import defaultdict
 from pathlib import Path
 
-from .. import TYPE_CHECKING
 from ..check_derivation import read_version
 from ..files import read_plain
+from ..shapes import Dependency, Iterator, Pairs, Table
 from .index import Crate, Index, Release, Unusable, by_precedence, need
-
-if TYPE_CHECKING:
-    from collections.abc import Iterator
-    from typing import Any
-
-    from ..shapes import Pairs
-    from .index import Dependency
-
-    Table = dict[str, Any]  # of TOML
 
 KINDS = ("dependencies", "build-dependencies", "build_dependencies", "dev-dependencies", "dev_dependencies")
 
@@ -32,9 +23,8 @@ def read_toml(path: Path) -> Table:
 
 
 class Cargo(Index):
-    """A folder of Cargo manifests, as a workspace or what `cargo vendor` writes, with its Cargo.lock where there is
-    one, and an index for the crates that are not there. See The Cargo Book, "The Manifest Format" and "Specifying
-    Dependencies"."""
+    """A workspace, or what `cargo vendor` writes, with its Cargo.lock, and an index for crates that are not there. See
+    The Cargo Book, "The Manifest Format" and "Specifying Dependencies"."""
 
     def __init__(self, top: str, index: Index | None = None) -> None:
         super().__init__()
@@ -65,7 +55,6 @@ class Cargo(Index):
             self.notes.left_out("manifests that can't be read", f"{place}: {fault}")
 
     def read_lock(self) -> dict[str, list[Table]]:
-        """The packages of Cargo.lock: by name a list of them."""
         path = self.top / "Cargo.lock"
         packages: dict[str, list[Table]] = defaultdict(list)
         if path.exists():
@@ -88,7 +77,6 @@ class Cargo(Index):
         return package["name"], str(version)
 
     def workspace(self, folder: Path) -> tuple[Path, Table]:
-        """The workspace of a package: its folder and its table."""
         for above in (folder, *folder.parents):
             if "workspace" in self.manifests.get(above, {}):
                 return above, self.manifests[above]["workspace"]
@@ -101,8 +89,7 @@ class Cargo(Index):
         return super().spelled(name) if super().has(name) or not self.index else self.index.spelled(name)
 
     def crate(self, name: str) -> Crate:
-        """What the manifests have of a crate; else the index; else Cargo.lock, which knows the versions that were taken
-        alone."""
+        """Of the manifests; else of the index; else of Cargo.lock, which knows the versions that were taken alone."""
         crate = Crate(name)
         crate.releases = [self.release(it, crate) for it in self.packages.get(name, [])]
         known = {read_version(it.version) for it in crate.releases}
@@ -124,8 +111,7 @@ class Cargo(Index):
         return name, f"={version}" if version else "*"
 
     def tables(self, folder: Path) -> Iterator[tuple[bool, str, Table, Path | None]]:
-        """Each dependency of the package of a folder, on every target: whether it is for tests alone, its name there,
-        and what is said of it, where the workspace says it with the folder of that."""
+        """Of each dependency whether it is for tests alone, its name there, what is said of it, and its folder."""
         for table in (self.manifests[folder], *self.manifests[folder].get("target", {}).values()):
             for kind in KINDS:
                 for alias, value in table.get(kind, {}).items():
@@ -139,8 +125,7 @@ class Cargo(Index):
                     yield kind.startswith("dev"), alias, entry, path
 
     def release(self, folder: Path, crate: Crate) -> Release:
-        """The package of a folder, which has a name, with its dependencies: to run and to build, without the optional
-        ones."""
+        """The package of a folder, which has a name, with what it needs to run and to build, but for options."""
         _, version = self.named(folder) or ("", "")
         needs: list[Dependency] = []
         for is_dev, alias, entry, path in self.tables(folder):
@@ -160,8 +145,7 @@ class Cargo(Index):
         return Release(version, needs)
 
     def own(self) -> list[Dependency]:
-        """The names and versions of the packages of the folder itself: of its manifest and of its workspace's members
-        with what they need by a path, or, where it has no manifest, what Cargo.lock has without a source."""
+        """The folder's package, its workspace's members and what these need by a path; else Cargo.lock's own ones."""
         if self.top not in self.manifests:
             return sorted((name, it["version"]) for name, held in self.lock.items() for it in held if not it["source"])
         workspace = self.manifests[self.top].get("workspace", {})

@@ -5,17 +5,13 @@ import json
 import os
 from pathlib import Path
 
-from .. import TYPE_CHECKING
 from ..files import read_plain
+from ..shapes import Any
 from .index import Crate, Index, Release, Unusable, need
-
-if TYPE_CHECKING:
-    from typing import Any
 
 
 class CratesIo(Index):
-    """A checkout of crates.io's index, or what Cargo keeps of it in a folder `.cache`, which has the same files with
-    the lines parted by zero bytes. See The Cargo Book, "Index Format"."""
+    """A checkout of the index, or Cargo's `.cache` of it with zero bytes between lines: see The Cargo Book."""
 
     def __init__(self, top: str) -> None:
         super().__init__()
@@ -67,7 +63,6 @@ class CratesIo(Index):
 
     @staticmethod
     def is_needed(dependency: dict[str, Any], version: str, crate: Crate) -> bool:
-        """Whether a dependency is one of a build of the crate without features, from this registry."""
         example = need(crate.name, version, dependency["name"])
         why = ("dev dependencies" if dependency.get("kind") == "dev"
                else "optional dependencies" if dependency.get("optional")

@@ -7,17 +7,8 @@ import re
 import subprocess
 from collections import defaultdict
 
-from .. import TYPE_CHECKING
+from ..shapes import Dependency, Fields, Interval, Numbers, Sequence
 from .index import Crate, Index, Release, Unusable, by_precedence, need
-
-if TYPE_CHECKING:
-    from collections.abc import Sequence
-
-    from .index import Dependency
-
-    Numbers = tuple[float, ...]  # three whole ones, or BEYOND
-    Interval = tuple[Numbers, Numbers]
-    Fields = dict[str, str]  # of a package
 
 # an interval of Debian's: from a version on, below another; versions are triples of numbers
 NOTHING: Numbers = (0, 0, 0)
@@ -88,7 +79,6 @@ class Debian(Index):
 
     @staticmethod
     def of_this_machine() -> str:
-        """What apt knows of each package, in the version that it would install."""
         try:
             done = subprocess.run(["apt-cache", "dumpavail"], stdout=subprocess.PIPE, check=True)
         except (OSError, subprocess.CalledProcessError) as fault:
@@ -97,7 +87,6 @@ class Debian(Index):
 
     @staticmethod
     def upstream(fields: Fields) -> str:
-        """The version of a package without Debian's own part."""
         return re.sub(r"^[0-9]+:", "", fields.get("Version", "")).rpartition("-")[0]
 
     def provided(self, fields: Fields, feature: str = "") -> dict[str, str]:
@@ -138,8 +127,7 @@ class Debian(Index):
         return crate
 
     def need(self, item: str, version: str, crate: Crate) -> Dependency | None:
-        """A dependency as a crate and a requirement; none where it is on something else. Of alternatives on one crate
-        that leave nothing out between them all are taken, else the first that is there."""
+        """Of alternatives on one crate without a gap between them all are taken, else the first that is there."""
         read = [it for it in map(self.interval, item.split("|")) if it]
         if not read:
             crate.notes.left_out("dependencies on packages that are no crates", need(crate.name, version, item))
@@ -152,8 +140,7 @@ class Debian(Index):
         return name, comparator(interval)
 
     def interval(self, item: str) -> tuple[str, Interval] | None:
-        """The crate and the interval of one alternative: numbers in the package's name say with what the version
-        begins, and a bound is read without Debian's own part and without a pre-release."""
+        """Numbers in the package's name begin the version; bounds are read without Debian's part and pre-release."""
         found = re.fullmatch(self.ITEM, item.strip())
         if not found:
             return None

@@ -1,23 +1,13 @@
-"""What an index has of a crate, whatever its form is.
-
-A reader answers the names that it has, and by name a crate with its releases in order of publication, with their
-dependencies as they stand there. What it leaves out, or tells otherwise than it stands there, is noted with the crate.
-"""
+"""What an index has of a crate, whatever its form is: its releases in order of publication, with their dependencies as
+they stand there. What is left out, or told otherwise than it stands there, is noted with the crate."""
 from __future__ import annotations
 
 from collections import Counter
 from dataclasses import dataclass, field
 
-from .. import TYPE_CHECKING
 from ..check_derivation import read_version
 from ..failures import Refused
-
-if TYPE_CHECKING:
-    from collections.abc import Iterable
-
-    from ..shapes import Pairs
-
-    Dependency = tuple[str, str]  # a crate's name and a requirement, or a version
+from ..shapes import Dependency, Iterable, Pairs
 
 
 class Unusable(Refused):
@@ -25,8 +15,7 @@ class Unusable(Refused):
 
 
 class Notes:
-    """What was left out, and what is told otherwise than it stood there: of each kind how often, and the first of
-    it."""
+    """What was left out, rewritten or missing: of each kind how often, and the first of it."""
 
     def __init__(self) -> None:
         self.counts: Counter[tuple[str, str]] = Counter()
@@ -50,7 +39,6 @@ class Notes:
             self.add(kind, notes.firsts[kind], times)
 
     def lines(self) -> list[str]:
-        """A line for each kind, those of one heading together."""
         return [f"{heading}: {kind}: {self.counts[heading, kind]} (first: {self.firsts[heading, kind]})"
                 for heading, kind in sorted(self.counts)]
 
@@ -70,8 +58,7 @@ class Crate:
 
 
 def folded(name: str) -> str:
-    """What two names have in common that no index of Cargo's has both: they differ in case, or in `-` and `_`,
-    alone."""
+    """No index of Cargo's has two names that differ in case, or in `-` and `_`, alone."""
     return name.lower().replace("_", "-")
 
 
@@ -113,7 +100,6 @@ class Index:
 
 
 def need(crate: str, release: str, target: str) -> str:
-    """How an example names a dependency."""
     return f"{crate} {release} needs {target}"
 
 

@@ -6,23 +6,15 @@ import re
 
 from registryd_lines.nearest import nearest
 
-from .. import TYPE_CHECKING
-from ..check_derivation import NAME, precedence, read_requirement
+from ..cases import Case, hints
+from ..check_derivation import NAME, ROOT, precedence, read_requirement
+from ..derivation import Dependency, Telling
 from ..failures import Failure, Refused, Unanswered
 from ..needs import need_of
+from ..packages import registry_in
 from ..refusals import english, unpublished
-from .refusal import refusal
-
-if TYPE_CHECKING:
-    from collections.abc import Callable, Mapping, Sequence
-    from typing import Union
-
-    from ..shapes import Pairs, Request
-    from .journal import Journal, View
-
-    Query = Mapping[str, Sequence[str]]
-    Field = list[Union[int, str]]  # the number of a need, and its part that is at fault
-    Value = dict[str, object]  # an object for JSON
+from ..shapes import Callable, Derivation, Fact, Field, Iterator, Mapping, Pairs, Query, Reply, Request, Step, Value
+from .journal import Journal, View
 
 MOST_FOUND = 100  # names that are told of a search at a time
 END = "\x7f"  # comes behind each letter of a name
@@ -42,15 +34,13 @@ class AtFault(Refused):
 
 
 def status(journal: Journal, _: Query) -> Value:
-    """What is shown, after a look at the file."""
     view = journal.refresh()
     return {"path": journal.path, "revision": view.revision, **view.counts, "fault": journal.fault,
             "warnings": view.warnings, "seconds": journal.seconds}
 
 
 def search(journal: Journal, query: Query) -> Value:
-    """A part of the packages whose names have a text in them, those that begin with it first. What is only needed is
-    among them."""
+    """Names that begin with the text come first. What is only needed is among them."""
     view, text = journal.view, query.get("text", [""])[0].strip().lower()
     found, asked = with_text(view.names, text), query.get("before", ["0"])[0]
     before = int(asked) if re.fullmatch("[0-9]{1,9}", asked) and int(asked) < len(found) else 0
@@ -72,7 +62,6 @@ def in_short(view: View, name: str) -> Value:
 
 
 def package(journal: Journal, query: Query) -> Value:
-    """A package: its versions, the newest first, with what each needs; and who needs it."""
     view, name = journal.view, query.get("name", [""])[0]
     if name not in view.names:
         raise NotThere(unpublished(name, view.names))
@@ -85,7 +74,6 @@ def package(journal: Journal, query: Query) -> Value:
 
 
 def resolve(journal: Journal, query: Query) -> Value:
-    """A selection, or the sentences that tell why there is none."""
     needs = [need_of(it.strip()) for it in query.get("need", []) if it.strip()]
     if not needs:
         raise Refused("name what is needed, as app@^1")
@@ -104,8 +92,7 @@ def resolve(journal: Journal, query: Query) -> Value:
 
 
 def field_of(needs: Pairs, number: int) -> Field | None:
-    """Which need a refusal by number speaks of, the first that it fits, and which part of it; none where it is of none
-    alone."""
+    """The first need that a refusal by number fits, and the part that is at fault; none where it is of none alone."""
     names = [name for name, _ in needs]
     judges: dict[int, tuple[str, Callable[[int], bool]]] = {
         1: ("name", lambda at: not NAME.fullmatch(names[at])),
@@ -116,7 +103,6 @@ def field_of(needs: Pairs, number: int) -> Field | None:
 
 
 def selection(view: View, selected: Mapping[str, str]) -> list[Value]:
-    """The packages of a selection, with what each needs, and what is newer."""
     return [{"name": name, "version": version, "needs": view.version(name, version).needs,
              "newest": newer(view, name, version)} for name, version in selected.items()]
 
@@ -125,6 +111,55 @@ def newer(view: View, name: str, version: str) -> str | None:
     """The newest version of a package, where that is not the one that was selected."""
     newest = view.newest(name).text
     return newest if precedence(newest) > precedence(version) else None
+
+
+# ---- a refusal, as the sentences of `registry why`, each with what it rests on and the packages that it speaks of
+
+def refusal(view: View, request: Request, reply: Reply) -> dict[str, object]:
+    case = Case(request, reply, lambda named: registry_in(view, named), None, set(view.lines))
+    derivation = case.derivation(case.title(), request, reply)
+    telling = Telling(derivation)
+    told = {place: step for step, place in telling.places.items()}
+    sentences = [sentence(telling, told.get(place), number, text)
+                 for place, (number, text) in enumerate(telling.sentences)]
+    edges = sorted(edges_of(derivation))
+    names = sorted({name for pair in edges for name in pair} - {ROOT})
+    return {"sentences": sentences, "hints": list(hints(derivation)), "edges": edges,
+            "packages": [{"name": it, "versions": len(view.listed.get(it, ()))} for it in names]}
+
+
+def sentence(telling: Telling, step: Step | None, number: int | None, text: str) -> dict[str, object]:
+    """One sentence; a break between two branches tells no step, and has no text."""
+    if step is None:
+        return {"text": text, "number": number, "below": [], "facts": [], "steps": [], "names": [], "conclusion": ""}
+    facts, steps = reasons(telling, step)
+    names = {name for it in (step, *steps) for name in it.terms} | {name for it in facts for name in it.names}
+    is_last = step is telling.derivation.last
+    return {"text": text, "number": number, "names": sorted(names - {ROOT}),
+            "conclusion": telling.failed if is_last else telling.derivation.conclusion(step),
+            "below": [telling.places[it] for it in telling.leading.get(step, ())],
+            "facts": list(dict.fromkeys(it.said for it in facts)),
+            "steps": [{"place": telling.places[it], "said": telling.derivation.conclusion(it)} for it in steps]}
+
+
+def reasons(telling: Telling, step: Step) -> tuple[list[Fact], list[Step]]:
+    facts = step.facts()
+    steps: list[Step] = []
+    for it in step.below():
+        if it in telling.places:
+            steps.append(it)
+        else:
+            further, others = reasons(telling, it)
+            facts, steps = facts + further, steps + others
+    return facts, steps
+
+
+def edges_of(derivation: Derivation) -> Iterator[tuple[str, str]]:
+    """The dependencies that it rests on, as pairs of packages; the request has no name."""
+    for step in derivation.reached():
+        for fact in step.facts():
+            if isinstance(fact, Dependency):
+                yield fact.whose[0], fact.target
 
 
 ANSWERS: dict[str, Callable[[Journal, Query], Value]] = {

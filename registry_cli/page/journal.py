@@ -4,31 +4,15 @@ from __future__ import annotations
 import os
 import threading
 
-from .. import TYPE_CHECKING
-from ..catalog import Catalog
+from ..catalog import Catalog, Version
 from ..failures import Failed, Unanswered
 from ..session import EMPTY, Reading, snapshot
-
-if TYPE_CHECKING:
-    from typing import Protocol
-
-    from ..catalog import Version
-    from ..shapes import Reply, Request
-
-    class Source(Protocol):
-        """What has a journal."""
-        path: str
-
-        def text(self) -> bytes: ...
-
-        def mark(self) -> object: ...
+from ..shapes import Reply, Request
 
 MOST_PAGES = 1_000  # whose last search is known
 
 
 class File:
-    """A journal's file that is shown."""
-
     def __init__(self, path: str) -> None:
         self.path = path
 
@@ -36,7 +20,6 @@ class File:
         return snapshot(self.path)
 
     def mark(self) -> object:
-        """What changes when the journal does."""
         try:
             found = os.stat(self.path)
         except OSError:
@@ -64,9 +47,7 @@ class Service:
 
 
 class View(Catalog):
-    """A journal as it stood at one moment."""
-
-    def __init__(self, source: Source) -> None:
+    def __init__(self, source: File | Service) -> None:
         self.path, self.text, self.searches = source.path, source.text(), 0
         self.ranks: dict[str, list[Version]] = {}
         session = Reading(self.path, self.text)
@@ -100,8 +81,6 @@ class View(Catalog):
 
 
 class Search:
-    """A search that runs, for one page."""
-
     def __init__(self, page: str, session: Reading) -> None:
         self.page, self.session, self.why = page, session, ""
 
@@ -114,7 +93,7 @@ class Search:
 class Journal:
     """What stands in a journal's file, for a server whose threads ask at once."""
 
-    def __init__(self, source: Source, seconds: float) -> None:
+    def __init__(self, source: File | Service, seconds: float) -> None:
         self.source, self.path, self.seconds = source, source.path, seconds
         # of what is held; of loading; of searching, one at a time
         self.lock, self.loading, self.turn = threading.Lock(), threading.Lock(), threading.Lock()
@@ -125,8 +104,7 @@ class Journal:
         self.view = View(source)
 
     def refresh(self) -> View:
-        """Reads the journal again where it has changed; answers what is shown then. What can't be read leaves that as
-        it was."""
+        """Reads the journal again where it has changed. What can't be read leaves what is shown as it was."""
         mark = self.source.mark()
         if mark != self.mark and self.loading.acquire(blocking=False):
             try:
@@ -150,8 +128,7 @@ class Journal:
     # ---- searches
 
     def ask(self, request: Request, page: str = "") -> tuple[View, Reply]:
-        """What is shown, and the reply to a request. A page has one search at a time: its next one ends it. Others wait
-        their turn."""
+        """A page has one search at a time: its next one ends it. Others wait their turn."""
         with self.lock:
             self.count += 1
             number = self.count
@@ -176,7 +153,6 @@ class Journal:
                     view.leave()
 
     def searched(self, view: View, request: Request, page: str) -> Reply:
-        """The reply of the program, which has some seconds for it."""
         search = Search(page, view.program())
         limit = f"{self.seconds:g} second{'s' * (self.seconds != 1)}"
         why = f"no answer was found in {limit}, and the search was ended"

@@ -9,16 +9,10 @@ from http import HTTPStatus
 from http.server import BaseHTTPRequestHandler, ThreadingHTTPServer
 from urllib.parse import parse_qs, urlsplit
 
-from .. import TYPE_CHECKING
 from ..failures import Failed, Failure, Refused, Unanswered, one_line
+from ..shapes import Any, Callable, Query, Value
 from .answers import ANSWERS, AtFault, NotThere
-
-if TYPE_CHECKING:
-    from collections.abc import Callable
-    from typing import Any
-
-    from .answers import Query, Value
-    from .journal import Journal
+from .journal import Journal
 
 HOST = "127.0.0.1"
 FILES = os.path.join(os.path.dirname(os.path.abspath(__file__)), "files")
@@ -36,7 +30,6 @@ HEADERS = {"Content-Security-Policy": POLICY, "X-Content-Type-Options": "nosniff
 
 
 def files() -> dict[str, tuple[bytes, str]]:
-    """What the browser may load, by address: each file with its kind."""
     found = {}
     for name in sorted(os.listdir(FILES)):
         kind = KINDS.get(os.path.splitext(name)[1])
@@ -48,7 +41,6 @@ def files() -> dict[str, tuple[bytes, str]]:
 
 
 class Handler(BaseHTTPRequestHandler):
-    """One request."""
     server: Server
     server_version, sys_version, timeout = "registry", "", PATIENCE
     error_message_format, error_content_type = "%(code)d %(message)s\n", "text/plain; charset=utf-8"
@@ -86,7 +78,6 @@ class Handler(BaseHTTPRequestHandler):
         return None
 
     def answered(self, answer: Callable[[Journal, Query], Value], query: str) -> tuple[HTTPStatus, bytes, str]:
-        """The status, the JSON and its kind."""
         try:
             value = answer(self.server.journal, parse_qs(query, max_num_fields=100))
             status = HTTPStatus.OK

@@ -3,7 +3,7 @@ import unittest
 from types import SimpleNamespace
 
 
-from registry_cli import alone
+from registry_cli.commands import import_index as alone
 
 
 def premise(name, target, need, *within):

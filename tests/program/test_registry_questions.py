@@ -10,7 +10,7 @@ from registry_cli import questions
 from registry_cli.check_derivation import ROOT
 from registry_cli.failures import Refused
 from registry_cli.questions import Question, Retold, bundled, reached
-from registry_cli.walk import is_preferred, walk
+from registry_cli.packages import is_preferred, walk
 from tests.support.program import publish, yank
 
 

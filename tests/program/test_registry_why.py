@@ -15,8 +15,7 @@ from xml.etree import ElementTree
 
 from bench import hostile_lines, workloads
 from registry_cli import check_derivation, drawing
-from registry_cli.derivation import Derivation, Versions
-from registry_cli.telling import Telling
+from registry_cli.derivation import Derivation, Telling, Versions
 from tests.program.test_check_derivation import REFUSALS, WORKED, tangle, worked
 from tests.program.test_readme import answers, page
 from tests.support import generated_lines

@@ -10,9 +10,8 @@ from unittest import mock
 from registry_cli import questions
 from registry_cli.check_derivation import Judge
 from registry_cli.derivation import Holding
-from registry_cli.packages import registry_of
+from registry_cli.packages import is_preferred, registry_of, walk
 from registry_cli.questions import Question, bundled
-from registry_cli.walk import is_preferred, walk
 from tests.support.called import registry
 from tests.support.plain_newest import Published
 from tests.support.program import PROGRAM, publish, resolve, run

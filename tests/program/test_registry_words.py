@@ -254,5 +254,5 @@ class Loaded(Folder):
                 self.assertFalse({"argparse", "registry_cli.parsing", "registry_cli.waiting", "tempfile"} & found,
                                  words)
             if words[0] != "outdated":
-                self.assertFalse({"registry_cli.cases", "registry_cli.telling", "registry_cli.derivation"} & found,
+                self.assertFalse({"registry_cli.cases", "registry_cli.derivation"} & found,
                                  words)

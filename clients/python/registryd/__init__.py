@@ -112,16 +112,13 @@ class Registry:
 
     def publish(self, name: str, version: str, needs: Pairs = ()) -> int:
         """Publishes a version; answers the revision."""
-        accepted: Accepted = self._call(Publish(name, version, needs))
-        return accepted.revision
+        return int(self._call(Publish(name, version, needs)).revision)
 
     def yank(self, name: str, version: str) -> int:
-        accepted: Accepted = self._call(Yank(name, version))
-        return accepted.revision
+        return int(self._call(Yank(name, version)).revision)
 
     def unyank(self, name: str, version: str) -> int:
-        accepted: Accepted = self._call(Unyank(name, version))
-        return accepted.revision
+        return int(self._call(Unyank(name, version)).revision)
 
     def resolve(self, needs: Pairs, lock: Pairs = (), *, budget: int | None = None,
                 explain: bool = False) -> Selection | NoSelection:

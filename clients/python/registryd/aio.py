@@ -11,7 +11,7 @@ from typing import Any
 
 from . import Registry
 from .embedded import Embedded
-from .replies import Accepted, Listing, NoSelection, Selection, Verdict
+from .replies import Listing, NoSelection, Selection, Verdict
 from .requests import Check, Derivation, List, Pairs, Publish, Request, Resolve, Unyank, Yank
 
 
@@ -35,16 +35,13 @@ class AsyncRegistry:
         return await asyncio.wrap_future(await asyncio.to_thread(ask, request) if self._is_embedded else ask(request))
 
     async def publish(self, name: str, version: str, needs: Pairs = ()) -> int:
-        accepted: Accepted = await self.ask(Publish(name, version, needs))
-        return accepted.revision
+        return int((await self.ask(Publish(name, version, needs))).revision)
 
     async def yank(self, name: str, version: str) -> int:
-        accepted: Accepted = await self.ask(Yank(name, version))
-        return accepted.revision
+        return int((await self.ask(Yank(name, version))).revision)
 
     async def unyank(self, name: str, version: str) -> int:
-        accepted: Accepted = await self.ask(Unyank(name, version))
-        return accepted.revision
+        return int((await self.ask(Unyank(name, version))).revision)
 
     async def resolve(self, needs: Pairs, lock: Pairs = (), *, budget: int | None = None,
                       explain: bool = False) -> Selection | NoSelection:

@@ -124,8 +124,7 @@ class Child(Threaded):
     # The threads
 
     def _write(self) -> None:
-        """Writes what is queued, and closes the pipe. A program that reads no more is ended, and the thread that reads
-        tells."""
+        """A program that reads no more is ended, and the thread that reads tells."""
         for step in (self._write_queued, self._shut):
             try:
                 step()
@@ -155,7 +154,6 @@ class Child(Threaded):
         self._stdin.close()
 
     def _hear(self) -> None:
-        """Keeps the end of what the program says on standard error."""
         assert isinstance(self._stderr, io.BufferedReader)
         with self._stderr as stderr:
             while told := stderr.read1(MOST_TOLD):
@@ -208,8 +206,7 @@ class Child(Threaded):
             self._end()
 
     def _end(self) -> None:
-        """Ends the program at once, with what it may have started. Calls that may be broken off do so: they take none
-        of Popen's locks."""
+        """With what it may have started. Calls that may be broken off do so: they take none of Popen's locks."""
         if self._process.returncode is None:
             with contextlib.suppress(ProcessLookupError):
                 os.killpg(self._process.pid, signal.SIGKILL)

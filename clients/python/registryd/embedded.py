@@ -48,7 +48,6 @@ ANSWERS = {MISUSED: "the library was misused, as by a process that was forked", 
 
 @functools.cache
 def loaded(path: str) -> ctypes.CDLL:
-    """The library, with its calls."""
     library = ctypes.CDLL(path)
     for name, takes in CALLS.items():
         call = getattr(library, f"registryd_{name}")
@@ -57,7 +56,6 @@ def loaded(path: str) -> ctypes.CDLL:
 
 
 def library_path(library: FilePath | None) -> str:
-    """Where the library is."""
     if named := library or os.environ.get("REGISTRYD_LIBRARY"):
         return os.fspath(named)
     # from PREFIX/share/registryd/clients/python/registryd
@@ -106,8 +104,7 @@ class Embedded:
         return self._alone(lambda: self._exchanged(lines))
 
     def _alone(self, work: Callable[[], Item], seconds: float | None = None) -> Item:
-        """Does what no two threads do at once. Where a call is broken off between any two steps of this, the lock is
-        given back too."""
+        """Does what no two threads do at once, and gives the lock back wherever it is broken off."""
         try:
             if not self._lock.acquire(timeout=-1 if seconds is None else seconds):
                 raise TimeoutError(f"a search of the session still runs after {seconds:g} seconds, "
@@ -232,7 +229,6 @@ def open_seats(library: FilePath | None, count: int, keep: FilePath | None, load
 
 
 def bytes_of(path: FilePath | None) -> bytes | None:
-    """A path as the library takes it."""
     return None if path is None else os.fsencode(path)
 
 

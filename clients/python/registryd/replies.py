@@ -8,7 +8,7 @@ from typing import TYPE_CHECKING, NoReturn, Union
 from .requests import Derivation, Request, written
 
 if TYPE_CHECKING:
-    from registryd_lines.culprit import Culprit
+    from registryd_lines.judging import Culprit
 
     from .tree import Derived
 
@@ -104,7 +104,7 @@ class Refusal(RegistryError):
     def culprit(self) -> Culprit | None:
         """Which text of the request is at fault, and what was probably meant; none where no text is, as for a budget
         that is spent."""
-        from registryd_lines.culprit import culprit
+        from registryd_lines.judging import culprit
         return culprit(self.number, written(self.request)[:-1]) if self.request else None
 
     def __str__(self) -> str:
@@ -211,7 +211,6 @@ def to(request: Request, reply: Reply | RegistryError) -> Reply | RegistryError:
 
 
 def answer(line: bytes) -> Reply | Refusal:
-    """What a reply line says."""
     said = decoded(str(line, "utf-8"))
     revision = said["revision"]
     if "ok" in said:

@@ -90,14 +90,12 @@ REQUESTS = (Publish, Yank, Unyank, Resolve, Check, List, Line)
 
 
 def text_of(value: str, whose: str) -> str:
-    """The JSON of a text."""
     if not isinstance(value, str):
         raise TypeError(f"{whose} is a text, not {value!r}")
     return quoted(value)
 
 
 def number_of(value: int, whose: str, least: int = 0, most: int = 4_294_967_295) -> str:
-    """A whole number in these bounds."""
     if not isinstance(value, int) or isinstance(value, bool):
         raise TypeError(f"{whose} is a whole number, not {value!r}")
     if not least <= value <= most:
@@ -116,7 +114,6 @@ EXAMPLE = {"needs": '("log", "^1.2")', "lock": '("log", "1.3.0")'}
 
 
 def rows(pairs: Pairs, whose: str) -> str:
-    """The JSON of pairs."""
     items: Iterable[Any]
     if isinstance(pairs, Mapping):
         items = pairs.items()
@@ -151,7 +148,6 @@ def wrong_pair(pairs: Iterable[object], whose: str) -> Exception:
 
 
 def written(request: Request) -> bytes:
-    """A request's line with its line feed."""
     if isinstance(request, Line):
         if not isinstance(request.text, bytes):
             raise TypeError(f"a line is bytes, not {request.text!r}")

@@ -103,8 +103,7 @@ class Connection(Threaded):
         self._ending.tell()
 
     def _write_queued(self) -> None:
-        """Asks what is queued, and by a connection that is new all that has no reply. Where that fails, the thread that
-        reads finds the connection broken off, and connects again."""
+        """By a new connection all that has no reply. Where that fails, the thread that reads connects again."""
         while (lines := self._lines.get()) is not None:
             with self._lock:
                 self._waiting.extend(lines)
@@ -139,8 +138,7 @@ class Connection(Threaded):
                 break
 
     def _read(self) -> bool:
-        """Gives replies to the lines that wait longest, until the connection breaks off; answers whether it has to be
-        made again."""
+        """Gives replies to the lines that wait longest; answers whether the connection has to be made again."""
         with contextlib.suppress(OSError), self._socket.makefile("rb") as replies:
             for line in replies:
                 if not line.endswith(b"\n") or not self._waiting or is_unavailable(line):
@@ -157,8 +155,7 @@ class Connection(Threaded):
         return not self._is_killed and (bool(self._waiting) or not self._is_all_asked)
 
     def _has_ended(self, limit: float) -> bool:
-        """Waits until the service has ended the connection, after which no line of it is carried out; answers whether
-        there is none that could be."""
+        """Waits until the service has ended the connection; answers whether no line of it can be carried out."""
         shut(self._socket, socket.SHUT_WR)
         try:
             while True:
@@ -258,7 +255,6 @@ class Connection(Threaded):
 
 
 def connect(address: str, seconds: float) -> socket.socket:
-    """A socket whose calls wait no longer than so many seconds."""
     host, colon, port = address.rpartition(":")
     if colon and "/" not in address and port.isdigit():
         connection = socket.create_connection((host.strip("[]"), int(port)), seconds)
@@ -276,7 +272,6 @@ def connect(address: str, seconds: float) -> socket.socket:
 
 
 def read_until(connection: socket.socket, end: bytes | None, limit: float) -> bytes:
-    """What comes, until it ends so, or ends."""
     pieces = [b"."]
     while pieces[-1] and not (end and pieces[-1].endswith(end)):
         connection.settimeout(max(limit - time.monotonic(), LEAST))

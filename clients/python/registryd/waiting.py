@@ -26,8 +26,7 @@ class Awaited(Future[Reply]):
         self._request = request
 
     def settle(self, reply: Reply | RegistryError) -> None:
-        """Doesn't wait for the future's lock: a thread that was interrupted in a call of this future may have left it
-        locked for good."""
+        """Doesn't wait for the future's lock: a thread that was interrupted may have left it locked for good."""
         if self._condition.acquire(blocking=False):
             self._condition.release()
             self._set(reply)
@@ -43,8 +42,7 @@ class Awaited(Future[Reply]):
 
 
 class Answered(queue.SimpleQueue[Union[Reply, RegistryError]]):
-    """What becomes of one line, for a single thread that waits: as much of a future as that takes, for a fifth of its
-    time."""
+    """For a single thread that waits: as much of a future as that takes, for a fifth of its time."""
 
     settle = queue.SimpleQueue.put
 
@@ -60,8 +58,7 @@ Futures = Sequence[Waiting]
 
 
 class Ending:
-    """The end of something, for any number of threads that wait for it. One that is interrupted may wait again: after
-    an interrupted `join` of a thread, Python takes the thread for ended."""
+    """Any thread may wait again after an interrupt: an interrupted `join` of a thread takes that for ended."""
 
     def __init__(self) -> None:
         self._has_come, self._lock = False, threading.Lock()

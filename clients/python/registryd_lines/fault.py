@@ -2,10 +2,8 @@
 from __future__ import annotations
 
 import json
-from typing import TYPE_CHECKING, NamedTuple
-
-if TYPE_CHECKING:
-    from collections.abc import Callable
+from collections.abc import Callable
+from typing import NamedTuple
 
 NAMES = {1: "BadName", 2: "BadVersion", 3: "BadRequirement", 4: "RepeatedDependency", 5: "SelfDependency",
          6: "TooManyDependencies", 19: "BadLine"}
@@ -16,8 +14,7 @@ Edit = tuple[int, int, str]
 
 
 class Bad(Exception):
-    """Why a text is not what it should be: where in it, in words, and the edit that makes of it what was probably
-    meant."""
+    """Why a text is not what it should be: where in it, in words, and the edit to what was probably meant."""
 
     def __init__(self, place: int, what: str, edit: Edit | None = None) -> None:
         super().__init__(what)
@@ -49,8 +46,7 @@ class Fault(NamedTuple):
 
 
 def placed(file: str, line: int, fault: Fault, style: Callable[[str, str], str] = lambda text, _: text) -> str:
-    """A fault in the way of compilers: the file, the line and the column, the error, what is wrong, and what was
-    probably meant."""
+    """In the way of compilers: the file, the line, the column, the error, what is wrong, and what was meant."""
     where, error = f"{file}:{line}:{fault.place + 1}:", f"error {fault.number} {fault.name}:"
     return f"{style(where, 'bold')} {style(error, 'red')} {fault.told}"
 

@@ -1,5 +1,4 @@
-"""The limits of what a line alone is judged by. `tests/in_process/test_limits.py` compares them with
-docs/REGISTRY.md."""
+"""The limits of what a line alone is judged by. `test_limits.py` compares them with docs/REGISTRY.md."""
 
 # bytes
 MOST_NAME_BYTES = 64

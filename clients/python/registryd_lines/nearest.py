@@ -1,9 +1,7 @@
 """The name that was probably meant by one that is not there."""
 from __future__ import annotations
 
-TYPE_CHECKING = False  # as that of typing, which costs the command `registry` milliseconds at its start
-if TYPE_CHECKING:
-    from collections.abc import Iterable
+from collections.abc import Iterable
 
 
 def nearest(word: str, words: Iterable[str], most: int = 2) -> str | None:
