@@ -36,9 +36,7 @@ class Reads(unittest.TestCase):
 
 class Writes(unittest.TestCase):
     def setUp(self):
-        folder = tempfile.TemporaryDirectory()
-        self.addCleanup(folder.cleanup)
-        self.folder = folder.name
+        self.folder = self.enterContext(tempfile.TemporaryDirectory())
 
     def leave_each_beginning(self, words, given, whole):
         """Lets the output fail behind each number of bytes of the whole, of which exactly these are written."""
@@ -86,9 +84,7 @@ class Calls(unittest.TestCase):
     @classmethod
     def setUpClass(cls):
         cls.library = built(cls, BREAK_CALLS)
-        folder = tempfile.TemporaryDirectory()
-        cls.addClassCleanup(folder.cleanup)
-        cls.folder = folder.name
+        cls.folder = cls.enterClassContext(tempfile.TemporaryDirectory())
         cls.loaded, cls.saved = os.path.join(cls.folder, "loaded"), os.path.join(cls.folder, "saved")
 
     def text(self, entries):

@@ -37,15 +37,12 @@ end 2
 @skip_without("cc", "gcc")
 class Client(unittest.TestCase):
     def setUp(self):
-        folder = tempfile.TemporaryDirectory()
-        self.addCleanup(folder.cleanup)
-        self.folder = folder.name
+        self.folder = self.enterContext(tempfile.TemporaryDirectory())
         self.caller = os.path.join(self.folder, "caller")
 
     def do(self, *words):
         """Runs a command in the test's folder, which has to succeed without a word on standard error."""
-        done = subprocess.run(words, cwd=self.folder, stdout=subprocess.PIPE, stderr=subprocess.PIPE,
-                              timeout=300, check=False)
+        done = subprocess.run(words, cwd=self.folder, capture_output=True, timeout=300)
         self.assertEqual((done.returncode, done.stderr), (0, b""), done.stdout)
         return done.stdout
 
@@ -59,8 +56,7 @@ class Client(unittest.TestCase):
     def test_the_example_in_process(self):
         linked(self.caller, os.path.join(CLIENT, "example.c"))
         self.check_example()
-        done = subprocess.run([self.caller, "no/such.journal"], cwd=self.folder, stdout=subprocess.PIPE,
-                              stderr=subprocess.PIPE, check=False)
+        done = subprocess.run([self.caller, "no/such.journal"], cwd=self.folder, capture_output=True)
         self.assertEqual((done.returncode, done.stdout, done.stderr),
                          (1, b"",
                           b"journal no/such.journal: can't be created: No such file or directory (os error 2)\n"))
@@ -92,8 +88,7 @@ class Client(unittest.TestCase):
     def test_careless_callers(self):
         # what goes beyond its memory, or is undefined in C, ends the program
         linked_with_sources(self.caller, CALLS, "-g", "-fsanitize=address,undefined", "-fno-sanitize-recover")
-        done = subprocess.run([self.caller, PROGRAM], cwd=self.folder, stdout=subprocess.PIPE, stderr=subprocess.PIPE,
-                              timeout=100, check=False)
+        done = subprocess.run([self.caller, PROGRAM], cwd=self.folder, capture_output=True, timeout=100)
         self.assertEqual((done.returncode, done.stdout), (0, b""), done.stderr)
         # the program's own words on the journal that isn't there, and on the one that another session has
         self.assertEqual(done.stderr, b"registryd: input failed\n" * 2
@@ -101,15 +96,13 @@ class Client(unittest.TestCase):
 
     def test_no_memory_for_replies(self):
         linked(self.caller, MEMORY, "-Wl,--wrap=realloc")
-        done = subprocess.run([self.caller, PROGRAM], stdout=subprocess.PIPE, stderr=subprocess.PIPE,
-                              timeout=300, check=False)
+        done = subprocess.run([self.caller, PROGRAM], capture_output=True, timeout=300)
         # a program that nobody hears any more says so
         self.assertEqual((done.returncode, done.stdout, done.stderr), (0, b"", b"registryd: output failed\n"))
 
     def test_a_session_is_closed_while_a_thread_waits_for_a_search(self):
         linked_with_sources(self.caller, CLOSED, "-g", "-fsanitize=thread")
-        done = subprocess.run([self.caller, PROGRAM], input=SEARCH, stdout=subprocess.PIPE, stderr=subprocess.PIPE,
-                              timeout=PATIENCE, check=False)
+        done = subprocess.run([self.caller, PROGRAM], input=SEARCH, capture_output=True, timeout=PATIENCE)
         ended = b"4\n", b"1\n"  # amid its call, or before the next one
         self.assertIn((done.returncode, done.stdout, done.stderr), [(0, told, b"") for told in ended])
 

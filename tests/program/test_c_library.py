@@ -26,8 +26,7 @@ VERSION = Path(TOP, "VERSION").read_text(encoding="ascii").strip()
 
 
 def said(*words, **more):
-    done = subprocess.run(list(map(str, words)), stdout=subprocess.PIPE, stderr=subprocess.STDOUT, text=True,
-                          check=False, **more)
+    done = subprocess.run(list(map(str, words)), stdout=subprocess.PIPE, stderr=subprocess.STDOUT, text=True, **more)
     assert done.returncode == 0, done.stdout
     return done.stdout
 
@@ -167,8 +166,7 @@ class Installed(unittest.TestCase):
     def check_example(self, env=None):
         path = self.folder / "a.journal"
         for wanted in (REPLIES, AGAIN):
-            done = subprocess.run([self.folder / "example", path], env=env, stdout=subprocess.PIPE,
-                                  stderr=subprocess.PIPE, check=False)
+            done = subprocess.run([self.folder / "example", path], env=env, capture_output=True)
             self.assertEqual((done.returncode, done.stdout, done.stderr), (0, wanted, b""))
         self.assertEqual(path.read_text(encoding="ascii"), JOURNAL)
         path.unlink()

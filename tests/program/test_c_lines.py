@@ -41,13 +41,10 @@ STRICT = ("-g", "-fsanitize=address,undefined", "-fno-sanitize-recover")
 class Lines(unittest.TestCase):
     @classmethod
     def setUpClass(cls):
-        folder = tempfile.TemporaryDirectory()
-        cls.addClassCleanup(folder.cleanup)
-        caller = linked_with_sources(os.path.join(folder.name, "caller"),
+        caller = linked_with_sources(os.path.join(cls.enterClassContext(tempfile.TemporaryDirectory()), "caller"),
                                      os.path.join(TESTS, "c_client_lines.c"), *STRICT)
-        done = subprocess.run([caller], input="".join(f"{it}\n" for it, _ in ROWS), stdout=subprocess.PIPE,
-                              stderr=subprocess.PIPE, text=True, timeout=PATIENCE,
-                              check=False)
+        given = "".join(f"{it}\n" for it, _ in ROWS)
+        done = subprocess.run([caller], input=given, capture_output=True, text=True, timeout=PATIENCE)
         assert (done.returncode, done.stderr) == (0, ""), done.stderr
         cls.printed = done.stdout.split("\n")
 
@@ -83,8 +80,7 @@ class Culprits(unittest.TestCase):
             caller = linked_with_sources(os.path.join(folder, "caller"),
                                          os.path.join(TESTS, "c_client_culprits.c"), *STRICT)
             done = subprocess.run([caller, PROGRAM], input="".join(f"{it}\n" for it in [*asked, *MORE]),
-                                  stdout=subprocess.PIPE, stderr=subprocess.PIPE, text=True,
-                                  timeout=PATIENCE, check=False)
+                                  capture_output=True, text=True, timeout=PATIENCE)
         self.assertEqual((done.returncode, done.stderr), (0, ""))
         wanted = ["\t\t\t\t"] * len(PUBLISHED) + ["\t".join(part or "" for part in it[1:])
                                                   for it in CULPRITS] + [*MORE.values()]

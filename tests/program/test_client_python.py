@@ -239,9 +239,8 @@ class Values(client_python.Case):
         typed, printed = blocks("clients/README.md")[at:at + 2]
         # the second time it goes on with its journal
         for _ in range(2):
-            done = subprocess.run([sys.executable, "-c", typed.replace("./registryd", PROGRAM)],
-                                  cwd=self.folder, env=variables,
-                                  stdout=subprocess.PIPE, text=True, timeout=SECONDS)
+            done = subprocess.run([sys.executable, "-c", typed.replace("./registryd", PROGRAM)], cwd=self.folder,
+                                  env=variables, stdout=subprocess.PIPE, text=True, timeout=SECONDS)
             self.assertEqual((done.returncode, done.stdout.strip()), (0, printed))
             self.assertEqual(read(self.path(journal)).count('"name":"app"'), 1)
 

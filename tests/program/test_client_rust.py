@@ -91,16 +91,14 @@ class Client(unittest.TestCase):
         given = {**os.environ, "CARGO_TARGET_DIR": os.path.join(folder, "target"), "REGISTRYD": PROGRAM,
                  "REGISTRYD_LIBRARY_FOLDER": os.path.dirname(LIBRARY or ""), **ONCE}
         words = ["cargo", *words, "--offline", "--locked", "--manifest-path", os.path.join(HERE, "Cargo.toml")]
-        done = subprocess.run(words, env=given, stdin=subprocess.DEVNULL, stdout=subprocess.PIPE,
-                              stderr=subprocess.PIPE, text=True, **more)
+        done = subprocess.run(words, env=given, stdin=subprocess.DEVNULL, capture_output=True, text=True, **more)
         self.assertEqual(done.returncode, 0, done.stdout + done.stderr)
         return done.stdout
 
     def passed(self, folder, *words):
         """How many tests have passed, for each file of tests."""
-        return list(map(int,
-                        re.findall(r"^test result: ok\. (\d+) passed; 0 failed; 0 ignored",
-                                   self.cargo(folder, "test", *words), re.M)))
+        return list(map(int, re.findall(r"^test result: ok\. (\d+) passed; 0 failed; 0 ignored",
+                                        self.cargo(folder, "test", *words), re.M)))
 
     def check_example(self, folder, name, journal, printed, *words):
         # the second time it goes on with its journal
@@ -142,8 +140,7 @@ class Client(unittest.TestCase):
             given = adding(folder, PAGE[0])
             os.symlink(PROGRAM, os.path.join(folder, "registryd"))
             done = subprocess.run(["cargo", "run", "--quiet", "--offline", "--manifest-path", "adds/Cargo.toml"],
-                                  cwd=folder, env=given,
-                                  stdout=subprocess.PIPE, stderr=subprocess.PIPE, text=True)
+                                  cwd=folder, env=given, capture_output=True, text=True)
             self.assertEqual((done.returncode, done.stdout.strip()), (0, PAGE[1]), done.stderr)
 
     def test_the_examples_are_those_that_are_shown(self):

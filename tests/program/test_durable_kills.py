@@ -64,8 +64,7 @@ class Kills(unittest.TestCase):
 
     def setUp(self):
         folder = tempfile.TemporaryDirectory(dir=MEMORY if os.path.isdir(MEMORY) else None)
-        self.addCleanup(folder.cleanup)
-        self.folder = os.path.realpath(folder.name)
+        self.folder = os.path.realpath(self.enterContext(folder))
         self.path = os.path.join(self.folder, NAME)
 
     def is_folder(self, given, folder="."):

@@ -4,10 +4,8 @@ They follow, by the program's own checker and by the tool that shares nothing wi
 agrees with them; and their lines are few, and stand in the order in which a person tells them. Damaged, none follows.
 """
 import json
-import os
 import random
 import subprocess
-import tempfile
 import unittest
 
 from registry_cli import check_derivation
@@ -16,6 +14,7 @@ from tests.support.called import called
 from tests.support.damages import KINDS, Damage
 from tests.support.program import publish, run, serve, unyank, yank
 from tests.support.refuter import Known
+from tests.support.registry_folder import Folder
 
 MOST_LINES = {"chain": 3, "either": 5}  # of the worked refusals; each other one takes a single line
 
@@ -179,17 +178,9 @@ class Explained(unittest.TestCase):
                 yield kind, damage
 
 
-class Files(unittest.TestCase):
-    def setUp(self):
-        folder = tempfile.TemporaryDirectory()
-        self.addCleanup(folder.cleanup)
-        self.folder = folder.name
-
+class Files(Folder):
     def file(self, name, lines):
-        path = os.path.join(self.folder, name)
-        with open(path, "w", encoding="utf-8") as out:
-            out.write("".join(line + "\n" for line in lines))
-        return path
+        return self.path(name, "".join(line + "\n" for line in lines))
 
     def test_a_session(self):
         lines = [*CHAIN[0], json.dumps(asked(CHAIN[1]))]
@@ -203,9 +194,8 @@ class Files(unittest.TestCase):
         rows = [{"causes": [{"fact": "need", "index": 0}, {"fact": "root"}], "conclusion": [], "pivot": ""}]
         files = [[publish("a", "1.0.0", ["b ^2"]), publish("b", "1.0.0"), json.dumps(request), checking(request, rows)],
                  [publish("c", "1.0.0"), json.dumps(request), yank("c", "1.0.0"), checking(request, rows),
-                  json.dumps(request)],
-                 [json.dumps(request), publish("b", "2.0.0"), unyank("b", "2.0.0"), json.dumps(request),
-                  checking(request, rows)]]
+                  json.dumps(request)], [json.dumps(request), publish("b", "2.0.0"), unyank("b", "2.0.0"),
+                                         json.dumps(request), checking(request, rows)]]
         for _ in range(20):
             done = run(["race", *(self.file(str(number), lines) for number, lines in enumerate(files))])
             self.assertEqual((done.returncode, done.stderr), (0, b""))

@@ -34,7 +34,7 @@ def below(folder):
 
 
 def run(words, given="", patience=60, **more):
-    return subprocess.run(words, input=given, timeout=patience, capture_output=True, text=True, check=False, **more)
+    return subprocess.run(words, input=given, timeout=patience, capture_output=True, text=True, **more)
 
 
 def left_by(words, given="", **more):

@@ -7,6 +7,7 @@ import unittest
 
 from dev.installing import installed
 from registry_cli.completion import PROGRAM as COMMANDS
+from tests.support.called import registry
 from tests.support.program import PROGRAM, TOP, skip_without
 
 VERSION = open(os.path.join(TOP, "VERSION"), encoding="ascii").read().strip()
@@ -39,13 +40,17 @@ class Pages(unittest.TestCase):
     @skip_without("man", "man-db")
     @skip_without("groff", "groff-base")
     def test_they_are_shown_without_a_warning(self):
-        for name in ("registryd.1", "registry-tools.1"):
-            with self.subTest(name):
-                words = ["man", "--warnings", "-E", "UTF-8", "-l", os.path.join(TOP, "docs", name)]
-                done = subprocess.run(words, stdout=subprocess.PIPE, stderr=subprocess.PIPE, check=True, timeout=60,
-                                      env={**os.environ, "MANWIDTH": "100", "LC_ALL": "C.UTF-8"})
-                self.assertEqual(done.stderr, b"")
-                self.assertIn("EXIT STATUS", done.stdout.decode())
+        made = os.path.join(self.enterContext(tempfile.TemporaryDirectory()), "registry.1")
+        with open(made, "w", encoding="ascii") as out:
+            out.write(registry("--manual")[1])
+        more = ("registry resolve app@^1 zlib", "--not NAME VERSION", "REGISTRY_JOURNAL", "--index ~/.cargo/registry")
+        for path, texts in (("registryd.1", ()), ("registry-tools.1", ()), (made, more)):
+            with self.subTest(path):
+                done = subprocess.run(["man", "--warnings", "-E", "UTF-8", "-l", os.path.join(TOP, "docs", path)],
+                                      env={**os.environ, "MANWIDTH": "100", "LC_ALL": "C.UTF-8"}, capture_output=True)
+                self.assertEqual((done.returncode, done.stderr), (0, b""))
+                for text in ("EXIT STATUS", *texts):
+                    self.assertIn(text, done.stdout.decode())
 
     def test_they_have_the_version(self):
         for name in ("registryd.1", "registry-tools.1"):

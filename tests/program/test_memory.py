@@ -114,9 +114,7 @@ def text_of(lines):
 class Memory(unittest.TestCase):
     @classmethod
     def setUpClass(cls):
-        folder = tempfile.TemporaryDirectory()
-        cls.addClassCleanup(folder.cleanup)
-        cls.folder, cls.library = folder.name, built(cls, REFUSE_MEMORY)
+        cls.folder, cls.library = cls.enterClassContext(tempfile.TemporaryDirectory()), built(cls, REFUSE_MEMORY)
 
     def refuse_each(self, words, lines=()):
         """Runs the program with each request refused in turn; answers its number, what it left, and its replies."""

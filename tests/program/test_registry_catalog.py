@@ -36,9 +36,8 @@ class Read(unittest.TestCase):
         # the first, a middle and the last of several needs; names that begin or end as the package's, and one with
         # letters that a pattern has
         lines = [publish("a", "1.0.0", ["log ^1", "z *"]), publish("a", "1.2.0", ["b *", "log >=1, <3", "z *"]),
-                 publish("a", "1.10.0-a", ["log-x *", "x-log *"]),
-                 publish("b", "2.0.0", ["a *", "log *"]), publish("b", "1.0.0", ["log =1.0.0"]), yank("b", "2.0.0"),
-                 publish("log", "1.0.0", ["lo ^1"])]
+                 publish("a", "1.10.0-a", ["log-x *", "x-log *"]), publish("b", "2.0.0", ["a *", "log *"]),
+                 publish("b", "1.0.0", ["log =1.0.0"]), yank("b", "2.0.0"), publish("log", "1.0.0", ["lo ^1"])]
         made = catalog.Catalog(journal(lines))
         self.assertEqual(list(made.needing("log")), [("a", "1.2.0", ">=1, <3"), ("b", "2.0.0", "*")])
         self.assertEqual((list(made.needing("lo")), list(made.needing("l.g"))), ([("log", "1.0.0", "^1")], []))
@@ -46,9 +45,8 @@ class Read(unittest.TestCase):
     def test_commands_that_do_not_follow_each_other(self):
         # names that begin as others; what was learnt stands between, and what is only needed has no commands
         lines = [publish("a", "1.0.0", ["b ^1"]), publish("a", "1.1.0", ["only *"]), publish("a-b", "1.0.0", ["a *"]),
-                 publish("b", "1.0.0", ["c ^1"]), learn(0), publish("c", "1.0.0"),
-                 yank("a", "1.1.0"), publish("a", "1.2.0", ["a-b *", "b *"]), learn(0, 5),
-                 publish("b", "1.1.0", ["only ^1"])]
+                 publish("b", "1.0.0", ["c ^1"]), learn(0), publish("c", "1.0.0"), yank("a", "1.1.0"),
+                 publish("a", "1.2.0", ["a-b *", "b *"]), learn(0, 5), publish("b", "1.1.0", ["only ^1"])]
         made = catalog.Catalog(journal(lines))
         self.assertEqual((list(made.lines), made.mentioned, made.revision),
                          (["a", "a-b", "b", "c"], ["a", "b", "only", "a-b", "c"], 8))

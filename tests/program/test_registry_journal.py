@@ -42,18 +42,6 @@ class Verify(Folder):
             journal = read_journal(path)
             return journal, why(path, journal) if journal.state == FAULTY else None
 
-    def test_limits(self):
-        many = whole(*(f'{{"name":"p{number // 4096}","needs":[],"op":"publish","version":"{number}.0.0"}}'
-                       for number in range(49_153)))
-        learnt = [LEARN.replace('"versions":[0],"within":[0]}],',
-                                f'"versions":[0],"within":[0,{number}]}}],').replace("[0]]],", f"[0,{number}]]],")
-                  for number in range(1, 4098)]
-        for said, line, reason in ((many, 49_154, "49,152 commands are before it, which is the limit"),
-                                   (whole(A, B, C, *learnt), 4101, "4,096 are stored before it, which is the limit")):
-            with self.subTest(reason=reason):
-                journal, told = self.read(said)
-                self.assertEqual((journal.line, told, len(journal.items)), (line, reason, line - 2))
-
     def test_what_is_whole_or_cut(self):
         held = whole(A, B, C, LEARN, YANK)
         for said, state, line, items, revision in (

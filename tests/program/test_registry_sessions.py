@@ -28,10 +28,11 @@ class Journals(unittest.TestCase):
 
     def test_a_journal_as_it_stands(self):
         whole = journal(CHAIN)
-        for text in (whole, whole[:-6], whole[:-6] + b'{"name":"half'):
+        for cut in range(len(whole)):
+            lines = whole[:cut].count(b"\n") - 1
+            self.assertEqual(self.snapshot(whole[:cut]), journal(CHAIN[:max(lines, 0)]), cut)
+        for text in (whole, whole[:-6] + b'{"name":"half'):
             self.assertEqual(self.snapshot(text), whole)
-        for text in (b"", b"registry-jour"):
-            self.assertEqual(self.snapshot(text), journal([]))
         os.unlink(self.path)
         self.assertRaisesRegex(Failed, "there is no such journal: `registry publish` or `registry import` begins one",
                                session.snapshot, self.path)

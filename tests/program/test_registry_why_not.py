@@ -11,8 +11,7 @@ from registry_cli import questions
 from registry_cli.check_derivation import Judge
 from registry_cli.derivation import Holding
 from registry_cli.packages import registry_of
-from registry_cli.questions import Question, bundled
-from registry_cli.walk import is_preferred, walk
+from registry_cli.questions import Question
 from tests.support.called import registry
 from tests.support.plain_newest import Published
 from tests.support.program import PROGRAM, publish, resolve, run
@@ -66,8 +65,7 @@ class Told(Folder):
 
     def test_two_before_it_are_told_as_english(self):
         lines = [*(publish(name, version) for name in "abc" for version in ("1.0.0", "2.0.0")), publish("z", "1.0.0"),
-                 publish("z", "2.0.0", ["w *"]),
-                 publish("w", "1.0.0", ["a ~1.0"]), publish("w", "2.0.0", ["b ~1.0"])]
+                 publish("z", "2.0.0", ["w *"]), publish("w", "1.0.0", ["a ~1.0"]), publish("w", "2.0.0", ["b ~1.0"])]
         self.hold(*lines)
         said = self.why_not(["a", "b", "c", "z"], "z 2.0.0")
         first, *_ = said.splitlines()
@@ -148,39 +146,6 @@ a selection with z 2.0.0 also changes:
 
 
 class Asked(unittest.TestCase):
-    def test_the_walk(self):
-        lines = [publish("b", "1.0.0", ["d *", "c *"]), publish("a", "1.0.0", ["e *", "c *"]),
-                 *(publish(name, "1.0.0") for name in "cf"),
-                 publish("d", "1.0.0", ["f *", "a *"]), publish("e", "1.0.0", ["g *"]), publish("g", "1.0.0")]
-        made = registry_of([json.loads(it) for it in lines], set("abcdefg"))
-        # the needs by name, then what a needs in published order, then what b needs, and what e, c and d do
-        self.assertEqual(walk([["b", "*"], ["a", "*"]], dict.fromkeys("abcdefg", "1.0.0"), made),
-                         ["a", "b", "e", "c", "d", "g", "f"])
-
-    def test_what_is_preferred(self):
-        for one, other, locked, wanted in (("2.0.0", "1.0.0", None, True), ("1.0.0", "2.0.0", None, False),
-                                           ("1.0.0", "2.0.0", "1.0.0", True),
-                                           ("2.0.0", "1.0.0", "1.0.0", False), ("2.0.0", "1.0.0", "3.0.0", True),
-                                           ("1.0.0", "1.0.0+b", None, False),
-                                           ("1.0.0-b", "1.0.0-a", None, True), ("1.0.0", "1.0.0-a", None, True)):
-            self.assertEqual(is_preferred(one, other, locked), wanted, (one, other, locked))
-
-    def test_packages_that_are_made(self):
-        needs = [[f"p{number}", "*"] for number in range(64 * 64 + 1)]
-        self.assertEqual(bundled(needs[:64], []), (needs[:64], []))
-        for count in (65, 128, 64 * 64 + 1):
-            asked, made = bundled(needs[:count],
-                                  [json.loads(publish("made", "1.0.0")),
-                                   json.loads(publish("a", "1.0.0", ["made-7 *"]))])
-            names = {it["name"]: it["needs"] for it in made}
-            self.assertTrue(len(names) == len(made) and all(name.startswith("made--") and len(held) <= 64 for name,
-                                                            held in names.items()))
-            found, waiting = [], [name for name, _ in asked]
-            for name in waiting:
-                waiting += [target for target, _ in names.get(name, [])]
-                found += [] if name in names else [name]
-            self.assertEqual(found, [name for name, _ in needs[:count]])
-
     def test_what_is_answered_over_random_registries(self):
         """A request may have two needs: so each question takes packages that are made. Each answer is that of a list of
         all selections, and each derivation follows over the registry alone, without them."""
