@@ -137,14 +137,11 @@ class Built(unittest.TestCase):
 
     def test_the_command(self):
         self.assertEqual(called(build_library, "more")[0], 2)
-        folder = Path("here")
-        with mock.patch.object(c_library.programs, "current",
-                               lambda _: True), mock.patch.object(c_library, "built", lambda: Library(folder, PROVED)):
-            self.assertEqual(called(build_library), (0, "here\n", ""))
-        with mock.patch.object(c_library.programs, "current",
-                               lambda _: True), mock.patch.object(c_library, "built",
-                                                                  side_effect=c_library.Unbuilt("why")):
-            self.assertEqual(called(build_library), (1, "", "tools/build_library: why\n"))
+        for built, wanted in ({"return_value": Library(Path("here"), PROVED)}, (0, "here\n", "")), (
+                {"side_effect": c_library.Unbuilt("why")}, (1, "", "tools/build_library: why\n")):
+            with (mock.patch.object(c_library.programs, "current", lambda _: True),
+                  mock.patch.object(c_library, "built", **built)):
+                self.assertEqual(called(build_library), wanted)
 
 
 @needs_library
@@ -170,15 +167,6 @@ class Installed(unittest.TestCase):
             self.assertEqual((done.returncode, done.stdout, done.stderr), (0, wanted, b""))
         self.assertEqual(path.read_text(encoding="ascii"), JOURNAL)
         path.unlink()
-
-    def test_where_it_stands(self):
-        self.install()
-        for name in ("lib/libregistryd.a", "lib/libregistryd.so.0", "lib/libregistryd.so", "include/registryd.h",
-                     "lib/pkgconfig/registryd.pc"):
-            self.assertTrue((self.prefix / name).is_file(), name)
-        self.assertEqual(os.readlink(self.prefix / "lib/libregistryd.so"), "libregistryd.so.0")
-        prefix.remove(self.prefix)
-        self.assertFalse(self.prefix.exists())
 
     @skip_without("pkg-config", "pkg-config")
     def test_callers_find_it(self):

@@ -138,10 +138,8 @@ class Explained(unittest.TestCase):
 
     def test_many_reasons(self):
         # Each version of a package is ruled out for a reason of its own, and there is one line for each. Sixteen lines
-        # and more are
-        # put together pairwise: of 64 versions the lines name each as one of 2, of 4, and so on up to 64, so six times.
-        # Fifteen
-        # lines or fewer each name one version more than the one before.
+        # and more are put together pairwise: of 64 versions the lines name each as one of 2, of 4, and so on up to 64,
+        # so six times. Fifteen lines or fewer each name one version more than the one before.
         for versions, named in ((64, 6 * 64), (14, sum(range(2, 15)))):
             lines = [publish("q", "1.0.0"), publish("q", "2.0.0")]
             lines += [publish("a", f"1.{number}.0", [f"q >=2.0.0, <3.{number}.0"]) for number in range(versions)]

@@ -90,6 +90,9 @@ def test_what_stands_where(whole):
         "registryd/registry.schema.json", "doc/registryd/FORMATS.md", "registryd/clients/python/registryd/__init__.py",
         "registryd/clients/c/registryd.h", "registryd/clients/c/embedded.c", "registryd/clients/c/Makefile",
         "registryd/clients/rust/Cargo.toml", "registryd/clients/rust/src/lib.rs")}
+    if FOLDER:
+        wanted |= {"include/registryd.h", "lib/pkgconfig/registryd.pc", "lib/libregistryd.a", "lib/libregistryd.so.0"}
+        assert os.readlink(whole / "lib/libregistryd.so") == "libregistryd.so.0"
     assert wanted <= there
     assert {*(whole / prefix.LIST).read_text(encoding="utf-8").splitlines()} == there | {"./"}
 

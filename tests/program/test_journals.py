@@ -5,7 +5,7 @@ import random
 import tempfile
 import unittest
 
-from registry_cli.limits import MOST_COMMANDS, MOST_LEARNT, MOST_LINE_BYTES, MOST_STORED, MOST_VERSIONS
+from registry_cli.limits import MOST_LEARNT, MOST_LINE_BYTES, MOST_STORED, MOST_VERSIONS
 from tests.program.test_reuse import lines_of, session_of
 from tests.support.plain_journal import Unknown, first_fault
 from tests.support.program import LIST, SERVE, journal_line, publish, resolve, run, serve, unyank, yank
@@ -45,11 +45,9 @@ def speaking_of(name, learnt):
 
 
 # How many packages the versions of p need beside z, in which each of these packages is in the way of one version. That
-# p can't be had rests
-# on two facts of each, what p and what that version of z need of it, and on p's need for z; with the need of a request
-# these are two facts
-# for each and two more. Each step joins two of what stands there, so it takes one step less than there are facts, at
-# the least.
+# p can't be had rests on two facts of each, what p and what that version of z need of it, and on p's need for z; with
+# the need of a request these are two facts for each and two more. Each step joins two of what stands there, so it takes
+# one step less than there are facts, at the least.
 ROWS = (TEACHING - 1) // 2
 FEW = 64  # versions of p, of which a line tells that can be written
 CHAIN_LEARNT = journal([*CHAIN, learn(0)])
@@ -191,15 +189,6 @@ class Loading(Sessions):
 
 
 class Limits(Sessions):
-    def test_the_commands_of_a_session(self):
-        most, full = MOST_COMMANDS, f'{{"error":10,"name":"JournalFull","revision":{MOST_COMMANDS}}}'
-        lines = [publish(f"p{n // MOST_VERSIONS}", f"1.{n % MOST_VERSIONS}.0") for n in range(most + 1)]
-        self.assertEqual(self.load(journal(lines[:most]), [lines[most], yank("p0", "1.0.0")]), [full, full])
-        self.fault(journal(lines), most + 2)
-        self.fault(journal([*lines[:most], yank("p0", "1.0.0"), unyank("p0", "1.0.0")], 1), most + 2)
-        # a line that is of no journal is told before one too many
-        self.fault(journal([*lines, lines[0]]), most + 3)
-
     def test_what_is_learnt_in_a_session(self):
         """Each version of c ends all that was learnt before it, which is as much as a store may have."""
         lines, versions = list(CHAIN), 1
@@ -220,9 +209,8 @@ class Limits(Sessions):
     def test_what_was_learnt_by_too_long_a_line_is_left_out(self):
         (few, _), (many, then) = (self.learnt_of(versions) for versions in (FEW, MOST_VERSIONS))
         # Each fact of p lists all versions of p, and so does what the step concludes that uses it. There are ROWS + 1
-        # of these facts, and a
-        # step uses two at most. Where p has as many versions as it may have, these lists alone are more than a line of
-        # a journal holds.
+        # of these facts, and a step uses two at most. Where p has as many versions as it may have, these lists alone
+        # are more than a line of a journal holds.
         short, long = (",".join(map(str, range(versions))) for versions in (FEW, MOST_VERSIONS))
         self.assertGreater((ROWS + 1) * 3 // 2 * len(long), MOST_LINE_BYTES)
         # Where it has few, three such lists for each step are less.
@@ -257,13 +245,6 @@ class Limits(Sessions):
         self.assertEqual((text[:len(lines) + 1], text[-2]), (["registry-journal 2", *map(journal_line, lines)],
                                                              f"end {len(lines) + len(learnt)}"))
         return learnt, told[-1]
-
-    def test_the_versions_of_a_package(self):
-        lines = [publish("a", f"1.{v}.0") for v in range(MOST_VERSIONS + 1)]
-        for form in (1, 2):
-            told = [f'{{"error":8,"name":"TooManyVersions","revision":{MOST_VERSIONS}}}']
-            self.assertEqual(self.load(journal(lines[:-1], form), lines[-1:]), told)
-            self.fault(journal(lines, form), MOST_VERSIONS + 2)
 
 
 def random_journal(rng):

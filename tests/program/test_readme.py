@@ -77,7 +77,8 @@ class Readme(unittest.TestCase):
 
     def test_what_is_typed_prints_what_is_shown(self):
         kept = following(FORMATS, "--journal a.journal")
-        for typed, told in (blocks()[:2], following(blocks(), "./registry "), kept):
+        imported = ["exec 2> counts", *blocks("docs/IMPORTING.md")[0]], blocks("docs/IMPORTING.md")[1]
+        for typed, told in (blocks()[:2], following(blocks(), "./registry "), kept, imported):
             with self.subTest(typed=typed), tempfile.TemporaryDirectory() as folder:
                 self.assertEqual(answers(folder, typed), (told, 0))
 

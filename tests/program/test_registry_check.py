@@ -8,6 +8,7 @@ from urllib.parse import unquote_to_bytes
 from dev.long import fuzz_check
 from registryd_lines.judging import faults
 from registryd_lines.nearest import distance, nearest
+from tests.program.test_check_derivation import rows as rows_of
 from tests.support.program import TOP, publish
 
 LIMIT = 1_048_576
@@ -107,18 +108,10 @@ def plain_distance(one, other):
 
 class Nearest(unittest.TestCase):
     def test_edits(self):
-        for word, words, wanted in (
-                ("publsh", ["publish", "resolve"], "publish"), ("lsit", ["list"], "list"),
-                ("serde_jsn", ["serde", "serde_json"], "serde_json"),
-                ("serde-json", ["serde_json", "serde"], "serde_json"), ("Rand", ["rand"], "rand"),
-                ("RESOLVE", ["resolve"], "resolve"),
-                ("ab", ["ba", "cd"], "ba"), ("a", ["b"], "b"), ("ab", ["cd"], None),
-                ("tokio", ["toki", "tokyo", "tokoi"], "toki"),
-                ("abcdef", ["badcfe"], None), ("abcdef", ["bacdfe"], "bacdfe"), ("", ["a"], "a"), ("", ["ab"], None),
-                ("yank", [], None),
-                ("abcdefghijkl", ["abcdefghijxy"], "abcdefghijxy"), ("abcdefghijkl", ["abcdefghixyz"], None)):
-            with self.subTest(word, words=words):
-                self.assertEqual(nearest(word, words), wanted)
+        for row in rows_of("nearest.txt"):
+            word, words, wanted = row.split(" | ")
+            with self.subTest(row):
+                self.assertEqual(nearest(word, words.split()), None if wanted == "none" else wanted)
 
     def test_distances_against_a_plain_count(self):
         rng = random.Random(1)

@@ -8,7 +8,6 @@ from unittest import mock
 from registry_cli import files
 from registry_cli.indexes.debian import BEYOND, NOTHING, comparator, joined
 from tests.program.test_check_derivation import rows
-from tests.program.test_readme import answers, blocks
 from tests.support.called import registry
 from tests.support.program import PROGRAM, TOP
 from tests.support.registry_folder import Folder, at_terminal
@@ -46,11 +45,6 @@ class Published(Folder):
 
 
 class Words(unittest.TestCase):
-    def test_what_the_page_has_typed_prints_what_it_says(self):
-        typed, told = blocks("docs/IMPORTING.md")[:2]
-        with tempfile.TemporaryDirectory() as folder:
-            self.assertEqual(answers(folder, ["exec 2> counts", *typed]), (told, 0))
-
     def test_a_file_that_may_have_no_end_is_told(self):
         with mock.patch.object(files, "MOST_BYTES", 4_096), tempfile.TemporaryDirectory() as top:
             path = Path(top, "1", "a")

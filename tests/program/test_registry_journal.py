@@ -13,25 +13,6 @@ from tests.support.made_lines import Maker
 from tests.support.program import SERVE, run
 from tests.support.registry_folder import Folder
 
-LEARN = ('{"derivation":[{"causes":['
-         '{"fact":"premise","name":"a","need":"^1.0.0","target":"b","versions":[0],"within":[0]},'
-         '{"fact":"premise","name":"b","need":"^1.0.0","target":"c","versions":[0],"within":[0]}],'
-         '"conclusion":[["a",true,[0]],["c",false,[0]]],"pivot":"b"}],"op":"learn"}')
-HEAD = "registry-journal 2"
-A = '{"name":"a","needs":[["b","^1.0.0"]],"op":"publish","version":"1.0.0"}'
-B = '{"name":"b","needs":[["c","^1.0.0"]],"op":"publish","version":"1.0.0"}'
-C = '{"name":"c","needs":[],"op":"publish","version":"1.0.0"}'
-C1 = '{"name":"c","needs":[],"op":"publish","version":"1.1.0"}'
-YANK = '{"name":"c","op":"yank","version":"1.0.0"}'
-
-
-def text(*lines):
-    return "".join(line + "\n" for line in lines)
-
-
-def whole(*items, head=HEAD):
-    return text(head, *items, f"end {len(items)}")
-
 
 class Verify(Folder):
     def read(self, said):
@@ -41,20 +22,6 @@ class Verify(Folder):
         with mock.patch.dict(os.environ, REGISTRY_PROGRAM=program.PROGRAM):
             journal = read_journal(path)
             return journal, why(path, journal) if journal.state == FAULTY else None
-
-    def test_what_is_whole_or_cut(self):
-        held = whole(A, B, C, LEARN, YANK)
-        for said, state, line, items, revision in (
-                (held, WHOLE, 0, 5, 4), (whole(), WHOLE, 0, 0, 0), (whole(A, C, head="registry-journal 1"), WHOLE, 0, 2,
-                                                                    2),
-                (held[:-1], CUT, 7, 5, 4), (held[:-6], CUT, 7, 5, 4), (held[:-7], CUT, 6, 4, 3),
-                (text(HEAD), CUT, 2, 0, 0), (text(HEAD, "")[:-1] + "end", CUT, 2, 0, 0),
-                (HEAD, CUT, 1, 0, 0), ("", CUT, 1, 0, 0), ("regis", CUT, 1, 0, 0),
-                (text(HEAD, A) + "\0\0", CUT, 3, 1, 1)):
-            with self.subTest(said[-20:]):
-                journal, told = self.read(said)
-                self.assertEqual((journal.state, journal.line, len(journal.items), journal.revision, told),
-                                 (state, line, items, revision, None))
 
     def test_damaged_journals(self):
         """The program says by `--load` which line is at fault, and by `--journal` whether a session goes on with the

@@ -93,8 +93,9 @@ class Ends(Folder):
         # the program ends with it
         lines, needs = pigeons(14)
         self.hold(*lines)
-        words = [COMMAND, "resolve", *needs, "--journal", self.journal]
-        for sent, status in ((signal.SIGINT, 130), (signal.SIGTERM, 143), (signal.SIGKILL, -signal.SIGKILL)):
+        for word, sent, status in (("resolve", signal.SIGINT, 130), ("resolve", signal.SIGTERM, 143),
+                                   ("resolve", signal.SIGKILL, -9), ("why", signal.SIGKILL, -9)):
+            words = [COMMAND, word, *needs, "--journal", self.journal]
             # a shell that runs these tests behind others may have it pass over the key
             with subprocess.Popen(words, env={**os.environ, "REGISTRY_PROGRAM": PROGRAM}, stdout=subprocess.PIPE,
                                   stderr=subprocess.PIPE,

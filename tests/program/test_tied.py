@@ -154,16 +154,6 @@ class Searches(unittest.TestCase):
             tool.kill()
         self.assertTrue(is_gone(child))
 
-    def test_commands_that_run_the_program(self):
-        for words in (["resolve", *BIRDS], ["why", *BIRDS]):
-            command = [os.path.join(TOP, "registry"), *words, "--journal", self.path]
-            with subprocess.Popen(command, env={**os.environ, "REGISTRY_PROGRAM": PROGRAM},
-                                  stdout=subprocess.PIPE) as tool:
-                child = child_of(tool.pid)
-                self.assertFalse(is_idle(child))
-                tool.kill()
-            self.assertTrue(is_gone(child), words)
-
 
 def open_files():
     """What this process has open, by its numbers."""

@@ -164,25 +164,25 @@ What is stored once a journal is loaded: a later version of bar ends it, and ano
 What was learnt is judged at its place: where it does not follow, stands too early, twice, or behind a later version of
 what it speaks of, where the end does not count it, and in the first format.
 
-  $ fault() { cat > loaded; echo as it was > saved; serve --load loaded --save saved < /dev/null; grep -vx 'as it was' saved; }
+  $ fault() { cat > loaded; echo as it was > saved; serve --load loaded --save saved < /dev/null; echo "$? $(cat saved)"; }
   $ (cat chain; echo "${learnt/'["c",false,[0]]'/'["c",false,[1]]'}") | whole | fault
   registryd: journal line 5
-  [1]
+  1 as it was
   $ (head -n 1 chain; echo "$learnt"; tail -n 2 chain) | whole | fault
   registryd: journal line 3
-  [1]
+  1 as it was
   $ (cat chain; echo "$learnt"; echo "$learnt") | whole | fault
   registryd: journal line 6
-  [1]
+  1 as it was
   $ (cat chain; echo '{"name":"c","needs":[],"op":"publish","version":"1.1.0"}'; echo "$learnt") | whole | fault
   registryd: journal line 6
-  [1]
+  1 as it was
   $ (cat chain; echo "$learnt") | whole | sed 's/^end 4/end 3/' | fault
   registryd: journal line 6
-  [1]
+  1 as it was
   $ (cat chain; echo "$learnt") | whole 1 | fault
   registryd: journal line 5
-  [1]
+  1 as it was
 
 A fault is told before the lines are read, and what can't be read is told.
 
@@ -197,3 +197,33 @@ A fault is told before the lines are read, and what can't be read is told.
   $ ls nothing
   ls: cannot access 'nothing': No such file or directory
   [2]
+
+As many commands as a session may have, and as many versions of a package. A line that is of no journal is told before
+one too many.
+
+  $ many() { seq 0 $(($1 - 1)) | awk '{ printf("{\"name\":\"p%d\",\"needs\":[],\"op\":\"publish\",\"version\":\"1.%d.0\"}\n", $1 / 4096, $1 % 4096) }'; }
+  $ many 49152 | whole > loaded
+  $ printf '%s\n' '{"op":"publish","name":"p12","version":"1.0.0","needs":[]}' '{"op":"yank","name":"p0","version":"1.0.0"}' | serve --load loaded
+  {"error":10,"name":"JournalFull","revision":49152}
+  {"error":10,"name":"JournalFull","revision":49152}
+  $ many 49153 | whole | fault
+  registryd: journal line 49154
+  1 as it was
+  $ (many 49152; echo '{"name":"p0","op":"yank","version":"1.0.0"}'; echo '{"name":"p0","op":"unyank","version":"1.0.0"}') | whole 1 | fault
+  registryd: journal line 49154
+  1 as it was
+  $ (many 49153; many 1) | whole | fault
+  registryd: journal line 49155
+  1 as it was
+  $ one_more='{"name":"p0","needs":[],"op":"publish","version":"1.4096.0"}'
+  $ for form in 1 2; do
+  >   many 4096 | whole $form > loaded
+  >   echo "$one_more" | serve --load loaded
+  >   (many 4096; echo "$one_more") | whole $form | fault
+  > done
+  {"error":8,"name":"TooManyVersions","revision":4096}
+  registryd: journal line 4098
+  1 as it was
+  {"error":8,"name":"TooManyVersions","revision":4096}
+  registryd: journal line 4098
+  1 as it was
