@@ -270,4 +270,3 @@ class AtRandom(unittest.TestCase):
     def test_a_few_sessions(self):
         told = [interrupt_sessions.tried(seed, 8) for seed in range(3)]
         self.assertEqual([find for *_, find in told if find], [])
-        print(f"({sum(it[1] for it in told)} calls interrupted, {sum(it[2] for it in told)} replies) ", end="")

@@ -116,7 +116,6 @@ class Client(unittest.TestCase):
             self.assertEqual((culprits, embedded, explained, seats), (1, 0, 3, 0))
             os.symlink(PROGRAM, os.path.join(folder, "registryd"))
             self.check_example(folder, "first", "rust.journal", PAGE[1])
-        print(f"({beside + calls + culprits + explained + program + service} tests) ", end="")
 
     @needs_library
     def test_its_tests_and_its_example_in_process(self):
@@ -131,7 +130,6 @@ class Client(unittest.TestCase):
             self.assertEqual(printed.strip(), PAGE[5])
             # 25 tools, and 25 publications and a yank of each of the four
             self.assertEqual(read(folder, "seats.journal").splitlines()[-1], "end 129")
-        print(f"({beside + calls + culprits + embedded + explained + program + seats + service} tests) ", end="")
 
     def test_a_program_that_adds_it(self):
         if without := why_not_built():

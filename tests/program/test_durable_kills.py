@@ -132,7 +132,6 @@ class Kills(unittest.TestCase):
                     self.goes_on(len(before))
                     kills += 1
         self.assertGreater(kills, 200)
-        print(f"({kills} kills) ", end="")
 
     def test_a_crash_at_each_moment(self):
         for start in STARTS:

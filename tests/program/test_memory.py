@@ -149,8 +149,6 @@ class Memory(unittest.TestCase):
             if done.left("saved") is not None:
                 self.assertEqual(commands_in(done.left("saved")), commands_told(lines, replies), number)
             one, several, late = one + (len(places) == 1), several + (len(places) > 1), late + (done.returncode != 0)
-        print(f"({number - LAST_RUNS} requests refused in turn: {early} before the first line, {one} answered 18, "
-              f"{several} at several lines, {late} of the journal) ", end="")
         return early, one, several, late
 
     def test_each_request_of_a_session(self):
@@ -195,7 +193,6 @@ class Memory(unittest.TestCase):
                 self.assertEqual(done.left("saved").decode(),
                                  text_of(["registry-journal 2", *left, f"end {len(left)}"]), number)
         self.assertTrue(counts["early"] > 20 and min(counts.values()) > 2, counts)
-        print(f"({number - LAST_RUNS} requests refused in turn: {counts}) ", end="")
 
     def refuse_each_of_a_race(self, *files):
         """Refuses each request of a race of these files in turn. Answers where the request of each run was missed: 0
@@ -221,8 +218,6 @@ class Memory(unittest.TestCase):
             all_short += short
         counts = [where.count(it) for it in range(3)]
         self.assertGreater(min(counts), 2)
-        print("({} requests refused in turn: {} before the first line, {} answered 18, {} behind the last) "
-              .format(number - LAST_RUNS, *counts), end="")
         return where, all_short
 
     def test_each_request_of_a_race_of_one_file(self):

@@ -75,7 +75,6 @@ class Lines(unittest.TestCase):
         self.assertEqual(finds, [])
         self.assertEqual(set(counts), {0, *fuzz_check.COMPARED}, "a number was never answered")
         self.assertGreater(sum(counts.values()), 3000)
-        print(f"({sum(counts.values())} lines) ", end="")
 
     def test_what_was_meant_ends_the_fault(self):
         """Of each line of the table with one fault, what was meant instead of a text is taken by the program in its

@@ -40,7 +40,6 @@ class Verify(Folder):
                 self.assertEqual(told is not None, journal.state == FAULTY)
                 self.go_on(journal)
         self.assertTrue(all(states.values()), states)
-        print(f"({sum(states.values())} journals) ", end="")
 
     def go_on(self, journal):
         """A session begins with a copy of the file, unless it is at fault, and what it leaves is what was lawful."""

@@ -131,7 +131,3 @@ class Judged(unittest.TestCase):
                 self.assertTrue(printed.endswith(b"\n" + text), text)
                 entries = text.count(b"\n") - 2
                 self.assertEqual([json.loads(it)["place"] for it in printed.splitlines()[:count]], [entries] * count)
-
-
-if __name__ == "__main__":
-    unittest.main()

@@ -72,7 +72,6 @@ class Words(unittest.TestCase):
                     self.compare(case, words)
                 count += 1
         self.assertGreater(count, least)
-        print(f"({count} command lines) ", end="")
 
     def test_words(self):
         self.of_file("words.rows", 30)

@@ -79,7 +79,6 @@ class WrittenLines(unittest.TestCase):
 
     def test_lines_that_are_of_their_form(self):
         self.assertEqual([self.good[place] for place in lines_schema.refused(self.good)][:3], [])
-        print(f"({len(self.good)} lines) ", end="")
 
     def test_lines_that_are_not_of_their_form(self):
         self.assertGreater(len(self.bad), 100)
@@ -87,7 +86,6 @@ class WrittenLines(unittest.TestCase):
         left = [(line, value) for place, (line, value) in enumerate(self.bad) if place not in refused]
         self.assertEqual([line for line, value in left if is_all_rising(value)][:3], [])
         self.assertGreater(len(refused), 100)
-        print(f"({len(refused)} lines, and {len(left)} whose ordinals don't rise) ", end="")
 
     def test_what_is_no_line(self):
         wrong = [(kind, json.loads(line)) for kind, _, line in (row.partition(": ") for row in rows("wrong_lines.txt"))]
