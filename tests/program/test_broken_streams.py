@@ -7,8 +7,9 @@ import tempfile
 import termios
 import unittest
 
+from tests.program.test_journals import journal
 from tests.support.preloaded import BREAK_CALLS, Break, built
-from tests.support.program import LIST, SERVE, end, journal_line, publish, resolve, run, talking
+from tests.support.program import LIST, SERVE, end, publish, resolve, run, talking
 from tests.support.tables import tables_under
 
 LINES = b'{"op":"publish","name":"b","version":"1.0.0","needs":[["a","^1"]]}\n{"op":"list"}\n\n{"op":"list"}'
@@ -87,10 +88,6 @@ class Calls(unittest.TestCase):
         cls.folder = cls.enterClassContext(tempfile.TemporaryDirectory())
         cls.loaded, cls.saved = os.path.join(cls.folder, "loaded"), os.path.join(cls.folder, "saved")
 
-    def text(self, entries):
-        return "".join(line + "\n"
-                       for line in ["registry-journal 2", *map(journal_line, entries), f"end {len(entries)}"]).encode()
-
     def write(self, path, text):
         with open(path, "wb") as out:
             out.write(text)
@@ -114,7 +111,7 @@ class Calls(unittest.TestCase):
     def session(self):
         before, asked = self.long_lines("a", 400), [*self.long_lines("b", 400), resolve("a *", "b *"), LIST,
                                                     resolve("none *")]
-        self.write(self.loaded, self.text(before))
+        self.write(self.loaded, journal(before))
         words = ["serve", "--workers", "4", "--load", self.loaded, "--save", self.saved]
         given = "".join(line + "\n" for line in asked).encode()
         names = ",".join(f'["{self.version(number)}",false]' for number in range(400))
@@ -122,7 +119,7 @@ class Calls(unittest.TestCase):
         told = [*(f'{{"ok":true,"revision":{number}}}' for number in range(401, 801)),
                 f'{{"revision":800,"selected":[["a","{last}"],["b","{last}"]]}}',
                 f'{{"packages":[["a",[{names}]],["b",[{names}]]],"revision":800}}', '{"refused":true,"revision":800}']
-        return words, given, "".join(line + "\n" for line in told).encode(), self.text([*before, *asked[:400]])
+        return words, given, "".join(line + "\n" for line in told).encode(), journal([*before, *asked[:400]])
 
     def is_kept(self, saved):
         """Whether the session's journal was saved; else what stood there stands as it was."""
@@ -166,7 +163,7 @@ class Calls(unittest.TestCase):
         told = [*(f'{{"ok":true,"place":{number},"revision":{number},"seat":1}}' for number in range(1, 701)),
                 f'{{"place":700,"revision":700,"seat":1,"selected":[["a","{self.version(699)}"]]}}',
                 *['{"error":19,"name":"BadLine","place":0,"revision":0,"seat":2}'] * 10_000]
-        return ["race", *paths], "".join(line + "\n" for line in told).encode() + self.text(asked[:700])
+        return ["race", *paths], "".join(line + "\n" for line in told).encode() + journal(asked[:700])
 
     def test_each_call_of_a_race(self):
         words, told = self.race()

@@ -3,7 +3,6 @@ import contextlib
 import copy
 import io
 import json
-import os
 import random
 import unittest
 from pathlib import Path
@@ -14,8 +13,6 @@ from tests.support.damages import KINDS, Damage
 from tests.support.program import TOP, publish, resolve, unyank, yank
 from tests.support.reference import Registry
 from tests.support.refuter import Known, Refuter
-
-TOOL = os.path.join(TOP, "tools", "check_derivation.py")
 
 DATA = Path(TOP, "tests", "support", "data")
 # Worked refusals: what is published, what is asked, the derivation, and how `registry why` tells it.

@@ -11,6 +11,7 @@ import unittest
 import pytest
 
 from tests.program import test_seats
+from tests.support.client_python import read
 from tests.support.library import LIBRARY, needs_library
 from tests.support.program import PROGRAM, TOP
 
@@ -23,18 +24,13 @@ WHERE = "(Debian 12: cargo-web; Debian 13: cargo)"
 IN_PROCESS = ("--features", "embedded")
 
 
-def read(*name):
-    with open(os.path.join(TOP, *name), encoding="utf-8") as text:
-        return text.read()
-
-
 def blocks(text):
     """A page's indented blocks, without their indent."""
     return [re.sub("^    ", "", block, flags=re.M).strip("\n")
             for block in re.findall("(?:^(?:    .*)?\n)+", text, re.M) if block.strip()]
 
 
-PAGE = blocks(read("clients", "rust", "README.md"))
+PAGE = blocks(read("clients/rust/README.md"))
 
 
 def numbers(text):
@@ -45,7 +41,7 @@ def numbers(text):
 def why_not_built():
     """Why the client can't be built here: there is no cargo, or what it calls is older than the crate says. None where
     it can."""
-    needed = numbers(re.search("rust-version = .*", read("clients", "rust", "Cargo.toml"))[0])
+    needed = numbers(re.search("rust-version = .*", read("clients/rust/Cargo.toml"))[0])
     for command in ("cargo", "rustc"):
         if not shutil.which(command):
             return f"there is no {command} {WHERE}"
@@ -77,7 +73,7 @@ class Seats(test_seats.Judged):
         if without := why_not_built():
             raise unittest.SkipTest(without)
         folder = cls.enterClassContext(tempfile.TemporaryDirectory())
-        given = adding(folder, read("tests", "support", "rust", "seats_race.rs"), *IN_PROCESS)
+        given = adding(folder, read("tests/support/rust/seats_race.rs"), *IN_PROCESS)
         words = ["cargo", "build", "--quiet", "--offline", "--manifest-path", "adds/Cargo.toml"]
         subprocess.run(words, cwd=folder, env=given, check=True)
         cls.race = os.path.join(folder, "target", "debug", "adds")
@@ -105,7 +101,7 @@ class Client(unittest.TestCase):
         for _ in range(2):
             self.assertEqual(self.cargo(folder, "run", "--quiet", "--example", name, *words, cwd=folder).strip(),
                              printed)
-            self.assertEqual(read(folder, journal).splitlines()[-1], "end 2")
+            self.assertEqual(read(os.path.join(folder, journal)).splitlines()[-1], "end 2")
 
     def test_its_tests_and_its_example(self):
         if without := why_not_built():
@@ -129,7 +125,7 @@ class Client(unittest.TestCase):
             printed = self.cargo(folder, "run", "--quiet", "--example", "seats", *IN_PROCESS, cwd=folder)
             self.assertEqual(printed.strip(), PAGE[5])
             # 25 tools, and 25 publications and a yank of each of the four
-            self.assertEqual(read(folder, "seats.journal").splitlines()[-1], "end 129")
+            self.assertEqual(read(os.path.join(folder, "seats.journal")).splitlines()[-1], "end 129")
 
     def test_a_program_that_adds_it(self):
         if without := why_not_built():
@@ -143,15 +139,15 @@ class Client(unittest.TestCase):
 
     def test_the_examples_are_those_that_are_shown(self):
         for block, name in ((PAGE[0], "first"), (PAGE[2], "embedded"), (PAGE[4], "seats")):
-            self.assertEqual(block, read("clients", "rust", "examples", f"{name}.rs").strip())
+            self.assertEqual(block, read(f"clients/rust/examples/{name}.rs").strip())
             self.assertLessEqual(len(block.splitlines()), 30)
 
     def test_each_refusal_is_there(self):
-        told = re.findall(r"^\| (\d+) \| ([A-Z]\w+) \|", read("docs", "REGISTRY.md"), re.M)
-        named = re.findall(r"^    ([A-Z]\w+)(?: = 1)?,$", read("clients", "rust", "src", "refusal.rs"), re.M)
+        told = re.findall(r"^\| (\d+) \| ([A-Z]\w+) \|", read("docs/REGISTRY.md"), re.M)
+        named = re.findall(r"^    ([A-Z]\w+)(?: = 1)?,$", read("clients/rust/src/refusal.rs"), re.M)
         self.assertEqual([name for _, name in told], named)
         self.assertEqual(len(named), 22)
 
     def test_it_needs_nothing_else(self):
-        self.assertNotIn("dependencies", read("clients", "rust", "Cargo.toml"))
-        self.assertEqual(re.findall("^name = .*", read("clients", "rust", "Cargo.lock"), re.M), ['name = "registryd"'])
+        self.assertNotIn("dependencies", read("clients/rust/Cargo.toml"))
+        self.assertEqual(re.findall("^name = .*", read("clients/rust/Cargo.lock"), re.M), ['name = "registryd"'])

@@ -19,6 +19,7 @@ PLAIN = journal([*CHAIN, yank("c", "1.0.0"), unyank("c", "1.0.0")], 1)
 CHANGED = "registryd: journal %s: changed by another program, and not gone on with\n"
 UNSAVED = b"registryd: output failed\n"
 NOBODY = 65_534
+BEGUN = journal([publish("a", "1.0.0")]).removesuffix(b"end 1\n")
 
 
 class Keeping(Sessions):
@@ -188,19 +189,17 @@ class Others(Keeping):
             file.write(text)
 
     def test_a_file_that_someone_else_changes(self):
-        one = journal([publish("a", "1.0.0")])
-        begun, other = one[:one.index(b"end")], os.path.join(self.folder, "other")
-        self.changed(lambda: self.append(b"x"), begun + b"x")
-        self.changed(lambda: self.append(journal_line(publish("c", "1.0.0")).encode() + b"\n"),
-                     begun + journal_line(publish("c", "1.0.0")).encode() + b"\n")
-        self.changed(lambda: os.truncate(self.kept, 5), begun[:5])
+        whole, other = BEGUN + b"end 1\n", os.path.join(self.folder, "other")
+        for more in (b"x", journal_line(publish("c", "1.0.0")).encode() + b"\n"):
+            self.changed(lambda: self.append(more), BEGUN + more)
+        self.changed(lambda: os.truncate(self.kept, 5), BEGUN[:5])
         self.changed(lambda: os.truncate(self.kept, 0), b"")
-        self.changed(lambda: self.write(self.kept, one + one), one + one)
+        self.changed(lambda: self.write(self.kept, whole + whole), whole + whole)
         self.changed(lambda: os.unlink(self.kept), None)
         self.changed(lambda: (self.write(other, b"other"), os.rename(other, self.kept)), b"other")
 
     def test_a_name_that_leads_to_another_file_or_to_none(self):
-        begun, other = journal([publish("a", "1.0.0")]).removesuffix(b"end 1\n"), os.path.join(self.folder, "other")
+        begun, other = BEGUN, os.path.join(self.folder, "other")
 
         def with_a_copy(change):
             shutil.copy(self.kept, other)
@@ -215,7 +214,7 @@ class Others(Keeping):
             self.changed(change, left, begun)
 
     def test_a_link_that_leads_elsewhere(self):
-        begun, other = journal([publish("a", "1.0.0")]).removesuffix(b"end 1\n"), os.path.join(self.folder, "other")
+        begun, other = BEGUN, os.path.join(self.folder, "other")
 
         def lead_to_a_copy():
             shutil.copy(self.there, other)

@@ -5,11 +5,10 @@ agrees with them; and their lines are few, and stand in the order in which a per
 """
 import json
 import random
-import subprocess
 import unittest
 
 from registry_cli import check_derivation
-from tests.program.test_check_derivation import CHAIN, TOOL, WORKED, asked, said_of, tangle
+from tests.program.test_check_derivation import WORKED, asked, said_of, tangle
 from tests.support.called import called
 from tests.support.damages import KINDS, Damage
 from tests.support.program import publish, run, serve, unyank, yank
@@ -179,12 +178,6 @@ class Explained(unittest.TestCase):
 class Files(Folder):
     def file(self, name, lines):
         return self.path(name, "".join(line + "\n" for line in lines))
-
-    def test_a_session(self):
-        lines = [*CHAIN[0], json.dumps(asked(CHAIN[1]))]
-        done = subprocess.run([TOOL, self.file("asked", lines), self.file("told", serve(lines))],
-                              stdout=subprocess.PIPE, text=True, timeout=100)
-        self.assertEqual((done.returncode, done.stdout), (0, "request 5: the refusal at revision 4 follows\n"))
 
     def test_a_race(self):
         # Each file asks why at a place of its own; the tool judges each seat's replies by the journal that was printed.

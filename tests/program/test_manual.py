@@ -97,16 +97,12 @@ class OfTheTools(unittest.TestCase):
             found |= set(re.findall(r"^  (?:-h, )?--([a-z-]+)", said, re.M)) - {"help"}
         return found
 
-    def test_each_option_is_told(self):
-        parts = sections(sections(page("registry-tools.1"), "Sh")["OPTIONS"], "Ss")
-        self.assertEqual(list(parts), list(TOOLS))
+    def test_each_option_is_told_and_in_the_synopsis(self):
+        parts = sections(page("registry-tools.1"), "Sh")
+        told, synopsis = sections(parts["OPTIONS"], "Ss"), re.split(r"^\.Nm ", parts["SYNOPSIS"], flags=re.M)[1:]
+        self.assertEqual(list(told), list(TOOLS))
         for name, (file, commands) in TOOLS.items():
-            told = set(re.findall(r"\bFl \\-([a-z-]+)", "".join(re.findall(r"^\.It .*$", parts[name], re.M))))
-            self.assertEqual(told, self.taken(file, commands), name)
-
-    def test_each_option_is_in_the_synopsis(self):
-        synopsis = re.split(r"^\.Nm ", sections(page("registry-tools.1"), "Sh")["SYNOPSIS"], flags=re.M)[1:]
-        for name, (file, commands) in TOOLS.items():
+            taken = self.taken(file, commands)
+            self.assertEqual(options("".join(re.findall(r"^\.It .*$", told[name], re.M))), taken, name)
             if name != "registryd-etcd":  # its synopsis has no room for them
-                told = options("".join(it for it in synopsis if it.split()[0] == name))
-                self.assertEqual(told, self.taken(file, commands), name)
+                self.assertEqual(options("".join(it for it in synopsis if it.split()[0] == name)), taken, name)

@@ -80,7 +80,10 @@ class Told(Folder):
         for count in (62, 90, 200):
             lines, _ = wide(count, every=False)
             self.hold(*lines)
-            said = self.why_not(["app"], "z 2.0.0")
+            said = self.why_not(["app"], "z 2.0.0", "--picture", self.path("why.svg"))
+            for told in ("because z 2.0.0 depends on part-005 \"=1.0.0\" and z 2.0.0 is asked for",
+                         "the selection has part-005 2.0.0"):
+                self.assertIn(told, self.text("why.svg"))
             self.assertEqual(said, """\
 app *: z 2.0.0 can't be selected with part-005 2.0.0, which comes before it
   Because z 2.0.0 depends on part-005 "=1.0.0" and z 2.0.0 is asked for, the selection requires part-005 "=1.0.0".
@@ -114,14 +117,6 @@ a selection with z 2.0.0 also changes:
         status, said, fault = registry("why", "--asked", turns, "--not", "z", "2.0.0")
         title = f"request {len(lines)}, app *: z 2.0.0 can't be selected with part-005 2.0.0, which comes before it"
         self.assertEqual((status, said.splitlines()[0], fault), (0, title, ""))
-
-    def test_the_picture_is_of_the_derivation(self):
-        lines, _ = wide(90, every=False)
-        self.hold(*lines)
-        self.why_not(["app"], "z 2.0.0", "--picture", self.path("why.svg"))
-        for told in ("because z 2.0.0 depends on part-005 \"=1.0.0\" and z 2.0.0 is asked for",
-                     "the selection has part-005 2.0.0"):
-            self.assertIn(told, self.text("why.svg"))
 
     def test_versions_that_no_requirement_names_alone(self):
         self.hold(publish("p", LONG), publish("p", LONG[:-1]), publish("p", "2.0.0"),
