@@ -6,6 +6,7 @@ import struct
 import tempfile
 import termios
 import unittest
+from pathlib import Path
 
 from tests.program.test_journals import journal
 from tests.support.preloaded import BREAK_CALLS, Break, built
@@ -48,14 +49,12 @@ class Writes(unittest.TestCase):
             fails = most < len(whole)
             self.assertEqual((done.returncode, done.stderr), (1, b"registryd: output failed\n") if fails
                              else (0, b""), most)
-            with open(path, "rb") as out:
-                self.assertEqual(out.read(), whole[:most])
+            self.assertEqual(Path(path).read_bytes(), whole[:most])
 
     def test_nobody_reads(self):
         # the signal that comes of it does not end the program
         path = os.path.join(self.folder, "lines")
-        with open(path, "wb") as out:
-            out.write(LINES)
+        Path(path).write_bytes(LINES)
         for words in (SERVE, ["race", path]):
             reading, writing = os.pipe()
             os.close(reading)
@@ -72,8 +71,7 @@ class Writes(unittest.TestCase):
         self.assertEqual(len(tables), len(OF_EACH_KIND))
         for table in tables:
             path = os.path.join(self.folder, "lines")
-            with open(path, "wb") as out:
-                out.write(table.requests())
+            Path(path).write_bytes(table.requests())
             whole = "".join(line + "\n" for line in [*table.replies(), *table.journal])
             self.leave_each_beginning(["race", path], b"", whole.encode())
 
@@ -89,8 +87,7 @@ class Calls(unittest.TestCase):
         cls.loaded, cls.saved = os.path.join(cls.folder, "loaded"), os.path.join(cls.folder, "saved")
 
     def write(self, path, text):
-        with open(path, "wb") as out:
-            out.write(text)
+        Path(path).write_bytes(text)
 
     def version(self, number):
         """A version of some 200 bytes."""
@@ -123,8 +120,7 @@ class Calls(unittest.TestCase):
 
     def is_kept(self, saved):
         """Whether the session's journal was saved; else what stood there stands as it was."""
-        with open(self.saved, "rb") as file:
-            text = file.read()
+        text = Path(self.saved).read_bytes()
         self.assertIn(text, (saved, b"as it was"))
         return text == saved
 

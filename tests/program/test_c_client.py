@@ -7,6 +7,7 @@ import subprocess
 import tempfile
 import time
 import unittest
+from pathlib import Path
 
 import pytest
 
@@ -20,6 +21,7 @@ CALLS = os.path.join(TESTS, "c_client_calls.c")
 OUTLIVED = os.path.join(TESTS, "c_client_outlived.c")
 CLOSED = os.path.join(TESTS, "c_client_closed.c")
 MEMORY = os.path.join(TESTS, "c_client_memory.c")
+PAGE = Path(CLIENT, "README.md").read_text(encoding="utf-8")
 PLACES, BIRDS = pigeons(15)
 # A request whose search outlasts each test, behind what it is of.
 SEARCH = "".join(line + "\n" for line in [*PLACES, resolve(*(f"{bird} *" for bird in BIRDS))]).encode()
@@ -50,8 +52,7 @@ class Client(unittest.TestCase):
         self.assertEqual(self.do(self.caller, *words, "a.journal"), REPLIES)
         # a second one goes on with the journal
         self.assertEqual(self.do(self.caller, *words, "a.journal"), AGAIN)
-        with open(os.path.join(self.folder, "a.journal"), encoding="ascii") as journal:
-            self.assertEqual(journal.read(), JOURNAL)
+        self.assertEqual(Path(self.folder, "a.journal").read_text(encoding="ascii"), JOURNAL)
 
     def test_the_example_in_process(self):
         linked(self.caller, os.path.join(CLIENT, "example.c"))
@@ -67,13 +68,11 @@ class Client(unittest.TestCase):
 
     def test_the_example_that_explains(self):
         linked(self.caller, os.path.join(CLIENT, "example_why.c"))
-        with open(os.path.join(CLIENT, "README.md"), encoding="utf-8") as page:
-            printed = re.search(r"It prints\n\n((?:    .*\n)+)", page.read())[1]
+        printed = re.search(r"It prints\n\n((?:    .*\n)+)", PAGE)[1]
         self.assertEqual(self.do(self.caller).decode(), re.sub("^    ", "", printed, flags=re.M))
 
     def test_the_example_of_seats(self):
-        with open(os.path.join(CLIENT, "README.md"), encoding="utf-8") as page:
-            printed = re.search(r"example_seats.c cache.journal\n\nIt prints\n\n    (.*\n)", page.read())[1]
+        printed = re.search(r"example_seats.c cache.journal\n\nIt prints\n\n    (.*\n)", PAGE)[1]
         linked(self.caller, os.path.join(CLIENT, "example_seats.c"))
         # the second time all stands there already
         for told in (printed, printed.replace("145", "0")):

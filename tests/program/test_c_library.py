@@ -64,8 +64,7 @@ class Page(unittest.TestCase):
     """What the page shows can be typed."""
 
     def test_the_example(self):
-        with open(os.path.join(CLIENT, "README.md"), encoding="utf-8") as file:
-            page = file.read()
+        page = Path(CLIENT, "README.md").read_text(encoding="utf-8")
         shown = re.search(r"This is \[example.c\]\(example.c\):\n\n((?:    .*\n|\n)+)", page)[1]
         self.assertEqual(re.sub("^    ", "", shown, flags=re.M).strip("\n") + "\n",
                          Path(EXAMPLE).read_text(encoding="utf-8"))

@@ -7,6 +7,7 @@ import signal
 import subprocess
 import tempfile
 import unittest
+from pathlib import Path
 
 from tests.program.test_journals import CONFLICT, journal
 from tests.support.durable_sessions import Watched, fault_of
@@ -79,13 +80,11 @@ class Kills(unittest.TestCase):
             self.write(STARTS[start][0])
 
     def write(self, text):
-        with open(self.path, "wb") as out:
-            out.write(text)
+        Path(self.path).write_bytes(text)
 
     def left(self):
         try:
-            with open(self.path, "rb") as file:
-                return file.read()
+            return Path(self.path).read_bytes()
         except FileNotFoundError:
             return b""
 
@@ -200,5 +199,4 @@ class Kills(unittest.TestCase):
             self.assertEqual((status, told.decode(), watched.client.read),
                              (1, f"registryd: journal {NAME}: {words}\n", b""))
             self.assertEqual(self.left(), b"")
-            with open(there, "rb") as file:
-                self.assertEqual(file.read(), STARTS["whole"][0])
+            self.assertEqual(Path(there).read_bytes(), STARTS["whole"][0])

@@ -4,6 +4,7 @@ import os
 import random
 import tempfile
 import unittest
+from pathlib import Path
 
 from registry_cli.limits import MOST_LEARNT, MOST_LINE_BYTES, MOST_STORED, MOST_VERSIONS
 from tests.program.test_reuse import lines_of, session_of
@@ -67,12 +68,10 @@ class Sessions(unittest.TestCase):
         self.loaded, self.saved = os.path.join(self.folder, "loaded"), os.path.join(self.folder, "saved")
 
     def write(self, path, text):
-        with open(path, "wb") as out:
-            out.write(text)
+        Path(path).write_bytes(text)
 
     def read(self, path):
-        with open(path, "rb") as file:
-            return file.read()
+        return Path(path).read_bytes()
 
     def words(self, load, save):
         return [*SERVE, *(["--load", load] if load else []), *(["--save", save] if save else [])]

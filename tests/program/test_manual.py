@@ -4,6 +4,7 @@ import re
 import subprocess
 import tempfile
 import unittest
+from pathlib import Path
 
 from dev.installing import installed
 from registry_cli.completion import PROGRAM as COMMANDS
@@ -16,8 +17,7 @@ TOOLS = {name: (called, [""]) for name, (called, _) in installed.TOOLS.items()}
 
 
 def page(name):
-    with open(os.path.join(TOP, "docs", name), encoding="utf-8") as text:
-        return text.read()
+    return Path(TOP, "docs", name).read_text(encoding="utf-8")
 
 
 def sections(text, mark):
@@ -41,8 +41,7 @@ class Pages(unittest.TestCase):
     @skip_without("groff", "groff-base")
     def test_they_are_shown_without_a_warning(self):
         made = os.path.join(self.enterContext(tempfile.TemporaryDirectory()), "registry.1")
-        with open(made, "w", encoding="ascii") as out:
-            out.write(registry("--manual")[1])
+        Path(made).write_text(registry("--manual")[1], encoding="ascii")
         more = ("registry resolve app@^1 zlib", "--not NAME VERSION", "REGISTRY_JOURNAL", "--index ~/.cargo/registry")
         for path, texts in (("registryd.1", ()), ("registry-tools.1", ()), (made, more)):
             with self.subTest(path):

@@ -5,6 +5,7 @@ import json
 import os
 import tempfile
 import unittest
+from pathlib import Path
 
 from tests.program.test_explained import told
 from tests.support import plain_race
@@ -175,8 +176,7 @@ class Memory(unittest.TestCase):
         lines = [journal_line(line) for line in (publish("a", "1.0.0", ["b ^1.0.0"]), publish("b", "1.0.0"),
                                                  json.dumps({"derivation": [learnt], "op": "learn"}))]
         asked = [LIST, publish("c", "1.0.0")]
-        with open(loaded, "w", encoding="ascii") as out:
-            out.write(text_of(["registry-journal 2", *lines, "end 3"]))
+        Path(loaded).write_text(text_of(["registry-journal 2", *lines, "end 3"]), encoding="ascii")
         replies = ['{"packages":[["a",[["1.0.0",false]]],["b",[["1.0.0",false]]]],"revision":2}',
                    '{"ok":true,"revision":3}']
         short, counts = '{"error":18,"name":"NoMemory","revision":2}', {"early": 0, "short": 0, "late": 0}
@@ -200,8 +200,7 @@ class Memory(unittest.TestCase):
         words, asked, where, all_short = ["race"], [[line.encode() for line in lines] for lines in files], [], []
         for number, lines in enumerate(files):
             words.append(os.path.join(self.folder, str(number)))
-            with open(words[-1], "w", encoding="ascii") as out:
-                out.write(text_of(lines))
+            Path(words[-1]).write_text(text_of(lines), encoding="ascii")
         for number, done, replies in self.refuse_each(words):
             told_of = plain_race.told_in(asked, list(replies)) if replies else []
             short = [(it.seat, it.line.decode()) for it in told_of if '"error":18' in it.reply]

@@ -5,7 +5,7 @@ from unittest import mock
 
 from registry_cli import catalog
 from tests.program.test_journals import journal, learn
-from tests.support.program import publish, yank
+from tests.support.program import publish, unyank, yank
 
 # log has versions in another order than that of precedence; 2.1.0 is yanked, and 3.0.0-rc.1 is a pre-release
 LINES = [publish("log", "1.10.0", ["zlib ^1"]), publish("log", "1.9.0"), publish("log", "3.0.0-rc.1"),
@@ -78,8 +78,7 @@ class Read(unittest.TestCase):
     def test_many_yanks_of_many_versions(self):
         # the last of each counts, and a yank is of the version of equal precedence
         lines = [publish("a", f"1.{minor}.0+b") for minor in range(40)]
-        lines += [yank("a", f"1.{minor}.0")
-                  for minor in range(40)] + [yank("a", f"1.{minor}.0").replace("yank", "unyank")
-                                             for minor in range(0, 40, 2)]
+        lines += [yank("a", f"1.{minor}.0") for minor in range(40)]
+        lines += [unyank("a", f"1.{minor}.0") for minor in range(0, 40, 2)]
         self.assertEqual(catalog.Catalog(journal(lines)).listed,
                          {"a": [(f"1.{minor}.0+b", minor % 2 == 1) for minor in range(40)]})

@@ -3,6 +3,7 @@ ones, of which the program says which line is at fault, and whether a session go
 import os
 import random
 import tempfile
+from pathlib import Path
 from unittest import mock
 
 from dev.long import fuzz
@@ -17,8 +18,7 @@ from tests.support.registry_folder import Folder
 class Verify(Folder):
     def read(self, said):
         path = self.path("some.journal")
-        with open(path, "wb") as out:
-            out.write(said if isinstance(said, bytes) else said.encode())
+        Path(path).write_bytes(said if isinstance(said, bytes) else said.encode())
         with mock.patch.dict(os.environ, REGISTRY_PROGRAM=program.PROGRAM):
             journal = read_journal(path)
             return journal, why(path, journal) if journal.state == FAULTY else None
@@ -31,8 +31,7 @@ class Verify(Folder):
             maker = Maker(random.Random(seed))
             _, lines = fuzz.first_lines(maker, 150)
             fuzz.run(lines, "--save", self.journal)
-            with open(self.journal, "rb") as file:
-                held = file.read()
+            held = Path(self.journal).read_bytes()
             for _ in range(25):
                 journal, told = self.read(fuzz.damaged(maker, held))
                 states[journal.state] += 1
@@ -44,16 +43,14 @@ class Verify(Folder):
     def go_on(self, journal):
         """A session begins with a copy of the file, unless it is at fault, and what it leaves is what was lawful."""
         path = self.path("copy.journal")
-        with open(path, "wb") as out:
-            out.write(journal.text)
+        Path(path).write_bytes(journal.text)
         done = run(["serve", "--workers", "1", "--journal", path])
         self.assertEqual(done.returncode, int(journal.state == FAULTY), done.stderr)
         if journal.state == FAULTY:
             self.assertRegex(done.stderr, rb"^registryd: journal .*\bline %d\b" % journal.line)
         else:
             self.assertEqual(done.stderr, b"")
-            with open(path, "rb") as file:
-                self.assertEqual(file.read(), journal_text(journal.items))
+            self.assertEqual(Path(path).read_bytes(), journal_text(journal.items))
 
 
 class Repair(Folder):
@@ -65,15 +62,12 @@ class Repair(Folder):
         maker = Maker(random.Random(7))
         _, lines = fuzz.first_lines(maker, 100)
         fuzz.run(lines, "--save", self.journal)
-        with open(self.journal, "rb") as file:
-            held = file.read()
+        held = Path(self.journal).read_bytes()
         for number in range(20):
             path, said = self.path(f"{number}.journal"), fuzz.damaged(maker, held)
-            with open(path, "wb") as out:
-                out.write(said)
+            Path(path).write_bytes(said)
             if self.repair(path)[0] == 0 and os.path.exists(path + ".repaired"):
-                with open(path + ".repaired", "rb") as file:
-                    kept = file.read()
+                kept = Path(path + ".repaired").read_bytes()
                 *items, end = kept.split(b"\n")[1:-1]
                 self.assertEqual((loaded(kept), end), (0, b"end %d" % len(items)))
                 self.assertTrue(said.startswith(kept[:-len(end) - 1]) or said.split(b"\n")[0] not in kept)

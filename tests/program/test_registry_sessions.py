@@ -9,6 +9,7 @@ import tempfile
 import threading
 import time
 import unittest
+from pathlib import Path
 from types import SimpleNamespace
 from unittest import mock
 
@@ -48,8 +49,7 @@ class Journals(unittest.TestCase):
         self.path = os.path.join(self.enterContext(tempfile.TemporaryDirectory()), "journal")
 
     def snapshot(self, text):
-        with open(self.path, "wb") as file:
-            file.write(text)
+        Path(self.path).write_bytes(text)
         return session.snapshot(self.path)
 
     def test_a_journal_as_it_stands(self):
@@ -233,8 +233,7 @@ class Begun(unittest.TestCase):
 
     def test_one_that_reads(self):
         text = journal([A1, learn(0)])
-        with open(self.path, "wb") as file:
-            file.write(text[:-6])
+        Path(self.path).write_bytes(text[:-6])
         for made in (session.Reading(self.path), session.Reading("k", text)):
             made.warnings = ["it is near a limit"]
             with mock.patch.object(session.near_limits, "tell") as tell, made:
@@ -245,8 +244,7 @@ class Begun(unittest.TestCase):
             self.assertIsNotNone(made.process.poll())
 
     def test_one_that_writes(self):
-        with open(self.path, "wb") as file:
-            file.write(b"x" * 5)
+        Path(self.path).write_bytes(b"x" * 5)
         for fault, is_told in ((None, True), (Refused("no"), True), (ZeroDivisionError(), False)):
             # it has the journal, so it answers
             with mock.patch.object(session.near_limits, "warn") as warn, \

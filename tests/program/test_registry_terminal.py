@@ -41,10 +41,10 @@ def red(text):
 
 
 class Shown(Folder):
-    def shown(self, *words, typed=b"", columns=0, lines=0, **environment):
+    def shown(self, *words, **more):
         """The status of a command at a terminal, and what that shows in the end: a line that says how long something
         takes is taken away."""
-        status, said = self.seen(*words, typed=typed, columns=columns, lines=lines, **environment)
+        status, said = self.seen(*words, **more)
         return status, re.sub(r"\r.*\r\x1b\[K", "", said)
 
     def seen(self, *words, typed=b"", columns=0, lines=0, **environment):
@@ -132,8 +132,7 @@ class Shown(Folder):
     def test_a_search_that_takes_long(self):
         lines, needs = pigeons(12)
         self.hold(*lines)
-        with open(self.journal, "rb") as file:
-            before = file.read()
+        before = Path(self.journal).read_bytes()
         told = "no answer was found in {}: --seconds N searches longer (0: without a limit)\n"
         status, said = self.seen("resolve", *needs, "--seconds", "2", NO_COLOR="1")
         self.assertEqual(status, 1)
@@ -144,8 +143,7 @@ class Shown(Folder):
                                                                 separators=(",", ":")) + "\n"), (["why"], "")):
             self.assertEqual(self.registry(*words, *needs, "--seconds", "1"), (1, error, f"registry: {told}"))
         self.assertEqual(self.registry("resolve", *needs, "--seconds", "0", "--budget", "100")[0], 1)
-        with open(self.journal, "rb") as file:
-            self.assertEqual(file.read(), before)
+        self.assertEqual(Path(self.journal).read_bytes(), before)
 
     def test_what_is_said_meanwhile(self):
         class Terminal(io.StringIO):

@@ -5,6 +5,7 @@ import json
 import os
 import random
 import unittest
+from pathlib import Path
 from unittest import mock
 
 from registry_cli import questions
@@ -97,16 +98,14 @@ a selection with z 2.0.0 also changes:
     def test_all_of_more_packages_than_a_request_may_need(self):
         lines, parts = wide(90, every=True)
         self.hold(*lines)
-        with open(self.journal, "rb") as file:
-            before = file.read()
+        before = Path(self.journal).read_bytes()
         said = self.why_not(["app"], "z 2.0.0")
         names = [f"{name} 2.0.0" for name in parts]
         self.assertEqual(said.splitlines()[0], f"app *: z 2.0.0 can't be selected with {', '.join(names[:-1])} and "
                                                f"{names[-1]}, which come before it")
         self.assertNotIn("made", said)
         reader_of(lines, [["app", "*"]], [], "z", "2.0.0", [(name, "2.0.0") for name in parts]).read(self.english(said))
-        with open(self.journal, "rb") as file:
-            self.assertEqual(file.read(), before)
+        self.assertEqual(Path(self.journal).read_bytes(), before)
 
     def test_a_session_of_lines(self):
         lines, _ = wide(90, every=False)
