@@ -141,7 +141,7 @@ Journals at fault: what `registry journal verify` says of the line that is, and 
 
 What is whole, and what is cut: in the midst of its end, of a line or of the first one, and behind each.
 
-  $ state() { cat > x.journal; registry journal verify x.journal | sed -E 's/^x.journal: (whole|cut): format ., /\1: /; s/, which is not finished.*//'; }
+  $ state() { cat > x.journal; registry journal verify x.journal | sed -E 's/^x.journal: (whole|cut): (format ., )?/\1: /; s/, which is not finished.*//'; }
   $ whole "$a" "$b" "$c" "$learn" "$yank" > held
   $ state < held
   whole: 4 commands and 1 learnt, revision 4
@@ -160,8 +160,8 @@ What is whole, and what is cut: in the midst of its end, of a line or of the fir
   $ printf 'registry-journal 2\nend' | state
   cut: 0 commands and 0 learnt, revision 0; its last line is 2
   $ for beginning in 'registry-journal 2' regis ''; do printf %s "$beginning" | state; done
-  cut: 0 commands and 0 learnt, revision 0; its last line is 1
-  cut: 0 commands and 0 learnt, revision 0; its last line is 1
-  cut: 0 commands and 0 learnt, revision 0; its last line is 1
+  cut: no items, revision 0; its last line is 1
+  cut: no items, revision 0; its last line is 1
+  cut: no items, revision 0; its last line is 1
   $ (lines 'registry-journal 2' "$a"; printf '\0\0') | state
   cut: 1 command and 0 learnt, revision 1; its last line is 3

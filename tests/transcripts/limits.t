@@ -74,10 +74,10 @@ What a publication makes, and what a journal that was renewed has.
 At the limits of a session a journal is at fault: a command too many, and one that is learnt too many.
 
   $ many 49153 | journal
-  $ registry journal verify registry.journal | head -n 1 | grep -oE '^[^ ]*:[0-9]+: at fault: |[0-9,]+ commands are before it, which is the limit'
+  $ registry journal verify registry.journal 2> /dev/null | grep -oE '^[^ ]*:[0-9]+: at fault: |[0-9,]+ commands are before it, which is the limit'
   registry.journal:49154: at fault: 
   49,152 commands are before it, which is the limit
   $ (chain | head -n 3; seq 1 4097 | sed 's/.*/{"derivation":[{"causes":[{"fact":"premise","name":"a","need":"^1.0.0","target":"b","versions":[0],"within":[0]},{"fact":"premise","name":"b","need":"^1.0.0","target":"c","versions":[0],"within":[0,&]}],"conclusion":[["a",true,[0]],["c",false,[0,&]]],"pivot":"b"}],"op":"learn"}/') | journal
-  $ registry journal verify registry.journal | head -n 1 | grep -oE '^[^ ]*:[0-9]+: at fault: |[0-9,]+ are stored before it, which is the limit'
+  $ registry journal verify registry.journal 2> /dev/null | grep -oE '^[^ ]*:[0-9]+: at fault: |[0-9,]+ are stored before it, which is the limit'
   registry.journal:4101: at fault: 
   4,096 are stored before it, which is the limit

@@ -5,7 +5,14 @@ not need.
   published a 1.0.0 (revision 1)
   $ echo '[["a","1.0.0"]]' > registry.lock
   $ echo a > registry.needs
-  $ loads() { python3 -S -X importtime "$(command -v registry)" "$@" 2>&1 > /dev/null < /dev/null | sed -n 's/^import time:.*| *//p' >> loaded; }
+  $ cat > look.py << end
+  > import runpy, sys
+  > try:
+  >     runpy.run_path(sys.argv.pop(1), run_name="__main__")
+  > finally:
+  >     print(*sys.modules, sep="\n", file=open("loaded", "a"))
+  > end
+  $ loads() { PYTHONPATH="$TESTDIR/../.." python3 -S look.py "$(command -v registry)" "$@" > /dev/null 2>&1 < /dev/null; }
   $ for words in list "show a" "resolve a" "tree a"; do loads $words; done
   $ grep '^registry_cli\.commands\.' loaded
   registry_cli.commands.listing
