@@ -12,7 +12,7 @@ from pathlib import Path
 import pytest
 
 from tests.support.library import CLIENT, FOLDER, TESTS, linked, linked_with_sources, needs_library
-from tests.support.processes import is_running
+from tests.support.processes import is_gone, is_running
 from tests.support.program import PATIENCE, PROGRAM, resolve, skip_without
 from tests.support.registry_folder import pigeons
 
@@ -58,9 +58,8 @@ class Client(unittest.TestCase):
         linked(self.caller, os.path.join(CLIENT, "example.c"))
         self.check_example()
         done = subprocess.run([self.caller, "no/such.journal"], cwd=self.folder, capture_output=True)
-        self.assertEqual((done.returncode, done.stdout, done.stderr),
-                         (1, b"",
-                          b"journal no/such.journal: can't be created: No such file or directory (os error 2)\n"))
+        told = b"journal no/such.journal: can't be created: No such file or directory (os error 2)\n"
+        self.assertEqual((done.returncode, done.stdout, done.stderr), (1, b"", told))
 
     def test_the_example_by_a_child(self):
         linked(self.caller, os.path.join(CLIENT, "example_child.c"))
@@ -118,7 +117,4 @@ class Client(unittest.TestCase):
             self.assertTrue(is_running(program))
             running.send_signal(signal.SIGKILL)
             running.wait()
-        limit = time.monotonic() + PATIENCE
-        while is_running(program):
-            self.assertLess(time.monotonic(), limit, "the program has outlived its caller")
-            time.sleep(0.01)
+        self.assertTrue(is_gone(program), "the program has outlived its caller")

@@ -5,6 +5,7 @@ import os
 import subprocess
 import tempfile
 import unittest
+from pathlib import Path
 
 import pytest
 
@@ -24,15 +25,7 @@ WORDS = ["all is well", "an argument is none that the call takes", "there is no 
          "the program can't be started", "the session has ended",
          "something is the matter with a journal's file", "no answer of this library"]
 # Lines in another order and with space, with an escaped text, of no text that is at fault, and that are no requests.
-NONE = f"BadLine\t{MISUSE}"
-MORE = {
-    ' { "lock" : [ ["b" , "1.0.0"] , ["a", "1.0\\u0030"] ] , "needs" : [ ] , "op":"resolve" , "budget" : 7 } ':
-        "BadVersion\tlock[1]\ta\t1.0\\u0030\t",
-    '{"needs":[["b","]\\"}"]],"version":"2.0.0","name":"a","op":"publish"}': 'BadRequirement\tneeds[0]\tb\t]\\"}\t',
-    '{"op":"resolve","needs":[["a","*"]],"budget":4294967296}': "BadLine\t\t\t\t",
-    '{"op":"list","needs":[["a"]]}': "BadLine\t\t\t\t",
-    "[]": NONE, "{": NONE, '{"op"}': NONE, '{"op":"list",}': NONE, '{"op":"list","needs":[[': NONE, '{"op":"': NONE,
-}
+MORE = json.loads(Path(TOP, "tests", "support", "data", "c_culprits.json").read_text(encoding="ascii"))
 STRICT = ("-g", "-fsanitize=address,undefined", "-fno-sanitize-recover")
 
 

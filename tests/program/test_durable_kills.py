@@ -83,10 +83,7 @@ class Kills(unittest.TestCase):
         Path(self.path).write_bytes(text)
 
     def left(self):
-        try:
-            return Path(self.path).read_bytes()
-        except FileNotFoundError:
-            return b""
+        return Path(self.path).read_bytes() if os.path.exists(self.path) else b""
 
     def session(self, start, workers="1", **more):
         """A session from such a start: how it ended, its calls, and what was read of it."""

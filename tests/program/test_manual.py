@@ -66,8 +66,7 @@ class OfTheProgram(unittest.TestCase):
         self.assertEqual(re.findall(r"^\.Cm (\w+)", parts["SYNOPSIS"], re.M), [*COMMANDS])
 
     def test_each_status_and_each_line_of_standard_error_is_there(self):
-        with open(os.path.join(TOP, "docs", "FORMATS.md"), encoding="utf-8") as text:
-            rows = re.findall(r"^\| (\d) \|.*\| (nothing|`registryd: (.*)`) \|$", text.read(), re.M)
+        rows = re.findall(r"^\| (\d) \|.*\| (nothing|`registryd: (.*)`) \|$", page("FORMATS.md"), re.M)
         parts = sections(page("registryd.1"), "Sh")
         self.assertEqual(re.findall(r"^\.It (\d)$", parts["EXIT STATUS"], re.M),
                          sorted({status for status, *_ in rows}))

@@ -7,12 +7,11 @@ import pytest
 from dev.long import move_journals
 
 pytestmark = pytest.mark.not_quick("random moments")
-SESSIONS = 24
 
 
 class Moves(unittest.TestCase):
     def test_moved_under_load(self):
-        for seed in range(SESSIONS):
+        for seed in range(24):
             _, find = move_journals.tried(seed)
             self.assertIsNone(find)
 

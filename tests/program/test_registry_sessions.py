@@ -17,27 +17,14 @@ from registry_cli import connected, journal_file, session
 from registry_cli.commands import journal_renew, journal_repair
 from registry_cli.failures import Failed, Refused, Usage
 from tests.program.test_journals import CHAIN, journal, learn
-from tests.support.program import LIST, in_time, publish
+from tests.support.program import LIST, TOP, in_time, publish
 
 A1 = publish("a", "1.0.0")
 # it answers its words, how many bytes the journal has that it is to load, and then nothing
 TELLING = """exec 2> /dev/null; for last; do :; done; echo '{"words":"'"$*"'"}'
 echo '{"bytes":'"$(wc -c < "${last#--load=}")}"; cat > /dev/null"""
 # what the program says as it ends, by docs/FORMATS.md, and what is told of that of a journal `j`
-SAID = [
-    ("registryd: journal j: in use by another session\n", "j is in use by another session: try again once that has "
-                                                          "ended"),
-    ("registryd: journal line 7\n", "j: line 7 is at fault: `registry journal verify j` says why, and `registry "
-                                    "journal repair j` keeps what is before it"),
-    ("registryd: journal j: line 12\n", "j: line 12 is at fault: `registry journal verify j` says why, and `registry "
-                                        "journal repair j` keeps what is before it"),
-    ("registryd: journal j: can't be opened: Permission denied (os error 13)\n",
-     "j: can't be opened: Permission denied: --journal FILE names another"),
-    ("registryd: input failed\n", "j can't be read"),
-    ("registryd: output failed\n", "j can't be written: it has the commands that were accepted before"),
-    ("registryd: no memory\n", "there is not enough memory for j"), ("registryd: building\n", ""), ("no memory\n", ""),
-    ("registryd: no memory", ""), ("", ""),
-]
+SAID = json.loads(Path(TOP, "tests", "support", "data", "reasons.json").read_text(encoding="ascii"))
 
 
 def given(**more):
