@@ -28,7 +28,7 @@ from collections.abc import Sequence
 from typing import Any
 
 from dev.long.race_many import made
-from dev.runs import Find, Run, demand, options, seed_tried
+from dev.runs import Find, Run, demand, seed_tried
 from registry_cli import tied
 from tests.support import library, plain_race, program
 from tests.support.made_lines import Maker
@@ -187,16 +187,14 @@ def tried(seed: int, told: str, most: int = ROUNDS) -> tuple[Any, ...]:
 
 
 def main(words: Sequence[str]) -> int:
-    chosen = options(__doc__, words, kills=40)
-    run, kills, replies = Run(chosen.jobs), 0, 0
+    run, kills, replies = Run(__doc__, words, kills=40), 0, 0
     sizes: list[int] = []
     with tempfile.TemporaryDirectory() as folder:
         told = library.linked(os.path.join(folder, "told"), SOURCE)
-        seeds = range(chosen.seed, chosen.seed + chosen.kills)
-        for of_one, of_replies, size in run.each(functools.partial(tried, told=told, most=chosen.kills), seeds):
+        for of_one, of_replies, size in run.each(functools.partial(tried, told=told, most=run.count)):
             kills, replies = kills + of_one, replies + of_replies
             sizes.append(size)
-            if kills >= chosen.kills:
+            if kills >= run.count:
                 break
     return run.end(f"{kills:,} kills of seats of {len(sizes)} files, the largest of {max(sizes):,} bytes, "
                    f"{replies:,} replies read,")

@@ -121,10 +121,9 @@ class Batches(unittest.TestCase):
 
     def test_who_waits_after_each_line_of_any_kind(self):
         lines = [*CHAIN, LIST, resolve("p9 ^1"), resolve("p0 *", "p9 ^2", explain=True), resolve("p9 ^1", budget=0),
-                 yank("p9", "1.1.0"),
-                 resolve("p9 ^1"), yank("p9", "1.1.0"), check("p9 *", derivation=[]), '{"op":"resolve","nee', "",
-                 unyank("p9", "1.1.0"),
-                 resolve("p9 ^1", lock=["p9 1.0.0"]), LIST, resolve()]
+                 yank("p9", "1.1.0"), resolve("p9 ^1"), yank("p9", "1.1.0"), check("p9 *", derivation=[]),
+                 '{"op":"resolve","nee', "", unyank("p9", "1.1.0"), resolve("p9 ^1", lock=["p9 1.0.0"]), LIST,
+                 resolve()]
         whole = served(WORKERS[0], lines)
         self.assertEqual(len(whole), len(lines))
         for workers in (WORKERS[0], WORKERS[-1]):

@@ -6,9 +6,11 @@ import struct
 import tempfile
 import termios
 import unittest
+from pathlib import Path
 
+from tests.program.test_journals import journal
 from tests.support.preloaded import BREAK_CALLS, Break, built
-from tests.support.program import LIST, SERVE, end, journal_line, publish, resolve, run, talking
+from tests.support.program import LIST, SERVE, end, publish, resolve, run, talking
 from tests.support.tables import tables_under
 
 LINES = b'{"op":"publish","name":"b","version":"1.0.0","needs":[["a","^1"]]}\n{"op":"list"}\n\n{"op":"list"}'
@@ -36,9 +38,7 @@ class Reads(unittest.TestCase):
 
 class Writes(unittest.TestCase):
     def setUp(self):
-        folder = tempfile.TemporaryDirectory()
-        self.addCleanup(folder.cleanup)
-        self.folder = folder.name
+        self.folder = self.enterContext(tempfile.TemporaryDirectory())
 
     def leave_each_beginning(self, words, given, whole):
         """Lets the output fail behind each number of bytes of the whole, of which exactly these are written."""
@@ -49,14 +49,12 @@ class Writes(unittest.TestCase):
             fails = most < len(whole)
             self.assertEqual((done.returncode, done.stderr), (1, b"registryd: output failed\n") if fails
                              else (0, b""), most)
-            with open(path, "rb") as out:
-                self.assertEqual(out.read(), whole[:most])
+            self.assertEqual(Path(path).read_bytes(), whole[:most])
 
     def test_nobody_reads(self):
         # the signal that comes of it does not end the program
         path = os.path.join(self.folder, "lines")
-        with open(path, "wb") as out:
-            out.write(LINES)
+        Path(path).write_bytes(LINES)
         for words in (SERVE, ["race", path]):
             reading, writing = os.pipe()
             os.close(reading)
@@ -73,8 +71,7 @@ class Writes(unittest.TestCase):
         self.assertEqual(len(tables), len(OF_EACH_KIND))
         for table in tables:
             path = os.path.join(self.folder, "lines")
-            with open(path, "wb") as out:
-                out.write(table.requests())
+            Path(path).write_bytes(table.requests())
             whole = "".join(line + "\n" for line in [*table.replies(), *table.journal])
             self.leave_each_beginning(["race", path], b"", whole.encode())
 
@@ -86,18 +83,11 @@ class Calls(unittest.TestCase):
     @classmethod
     def setUpClass(cls):
         cls.library = built(cls, BREAK_CALLS)
-        folder = tempfile.TemporaryDirectory()
-        cls.addClassCleanup(folder.cleanup)
-        cls.folder = folder.name
+        cls.folder = cls.enterClassContext(tempfile.TemporaryDirectory())
         cls.loaded, cls.saved = os.path.join(cls.folder, "loaded"), os.path.join(cls.folder, "saved")
 
-    def text(self, entries):
-        return "".join(line + "\n"
-                       for line in ["registry-journal 2", *map(journal_line, entries), f"end {len(entries)}"]).encode()
-
     def write(self, path, text):
-        with open(path, "wb") as out:
-            out.write(text)
+        Path(path).write_bytes(text)
 
     def version(self, number):
         """A version of some 200 bytes."""
@@ -118,7 +108,7 @@ class Calls(unittest.TestCase):
     def session(self):
         before, asked = self.long_lines("a", 400), [*self.long_lines("b", 400), resolve("a *", "b *"), LIST,
                                                     resolve("none *")]
-        self.write(self.loaded, self.text(before))
+        self.write(self.loaded, journal(before))
         words = ["serve", "--workers", "4", "--load", self.loaded, "--save", self.saved]
         given = "".join(line + "\n" for line in asked).encode()
         names = ",".join(f'["{self.version(number)}",false]' for number in range(400))
@@ -126,12 +116,11 @@ class Calls(unittest.TestCase):
         told = [*(f'{{"ok":true,"revision":{number}}}' for number in range(401, 801)),
                 f'{{"revision":800,"selected":[["a","{last}"],["b","{last}"]]}}',
                 f'{{"packages":[["a",[{names}]],["b",[{names}]]],"revision":800}}', '{"refused":true,"revision":800}']
-        return words, given, "".join(line + "\n" for line in told).encode(), self.text([*before, *asked[:400]])
+        return words, given, "".join(line + "\n" for line in told).encode(), journal([*before, *asked[:400]])
 
     def is_kept(self, saved):
         """Whether the session's journal was saved; else what stood there stands as it was."""
-        with open(self.saved, "rb") as file:
-            text = file.read()
+        text = Path(self.saved).read_bytes()
         self.assertIn(text, (saved, b"as it was"))
         return text == saved
 
@@ -170,7 +159,7 @@ class Calls(unittest.TestCase):
         told = [*(f'{{"ok":true,"place":{number},"revision":{number},"seat":1}}' for number in range(1, 701)),
                 f'{{"place":700,"revision":700,"seat":1,"selected":[["a","{self.version(699)}"]]}}',
                 *['{"error":19,"name":"BadLine","place":0,"revision":0,"seat":2}'] * 10_000]
-        return ["race", *paths], "".join(line + "\n" for line in told).encode() + self.text(asked[:700])
+        return ["race", *paths], "".join(line + "\n" for line in told).encode() + journal(asked[:700])
 
     def test_each_call_of_a_race(self):
         words, told = self.race()

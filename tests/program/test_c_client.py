@@ -7,11 +7,12 @@ import subprocess
 import tempfile
 import time
 import unittest
+from pathlib import Path
 
 import pytest
 
 from tests.support.library import CLIENT, FOLDER, TESTS, linked, linked_with_sources, needs_library
-from tests.support.processes import is_running
+from tests.support.processes import is_gone, is_running
 from tests.support.program import PATIENCE, PROGRAM, resolve, skip_without
 from tests.support.registry_folder import pigeons
 
@@ -20,6 +21,7 @@ CALLS = os.path.join(TESTS, "c_client_calls.c")
 OUTLIVED = os.path.join(TESTS, "c_client_outlived.c")
 CLOSED = os.path.join(TESTS, "c_client_closed.c")
 MEMORY = os.path.join(TESTS, "c_client_memory.c")
+PAGE = Path(CLIENT, "README.md").read_text(encoding="utf-8")
 PLACES, BIRDS = pigeons(15)
 # A request whose search outlasts each test, behind what it is of.
 SEARCH = "".join(line + "\n" for line in [*PLACES, resolve(*(f"{bird} *" for bird in BIRDS))]).encode()
@@ -37,15 +39,12 @@ end 2
 @skip_without("cc", "gcc")
 class Client(unittest.TestCase):
     def setUp(self):
-        folder = tempfile.TemporaryDirectory()
-        self.addCleanup(folder.cleanup)
-        self.folder = folder.name
+        self.folder = self.enterContext(tempfile.TemporaryDirectory())
         self.caller = os.path.join(self.folder, "caller")
 
     def do(self, *words):
         """Runs a command in the test's folder, which has to succeed without a word on standard error."""
-        done = subprocess.run(words, cwd=self.folder, stdout=subprocess.PIPE, stderr=subprocess.PIPE,
-                              timeout=300, check=False)
+        done = subprocess.run(words, cwd=self.folder, capture_output=True, timeout=300)
         self.assertEqual((done.returncode, done.stderr), (0, b""), done.stdout)
         return done.stdout
 
@@ -53,17 +52,14 @@ class Client(unittest.TestCase):
         self.assertEqual(self.do(self.caller, *words, "a.journal"), REPLIES)
         # a second one goes on with the journal
         self.assertEqual(self.do(self.caller, *words, "a.journal"), AGAIN)
-        with open(os.path.join(self.folder, "a.journal"), encoding="ascii") as journal:
-            self.assertEqual(journal.read(), JOURNAL)
+        self.assertEqual(Path(self.folder, "a.journal").read_text(encoding="ascii"), JOURNAL)
 
     def test_the_example_in_process(self):
         linked(self.caller, os.path.join(CLIENT, "example.c"))
         self.check_example()
-        done = subprocess.run([self.caller, "no/such.journal"], cwd=self.folder, stdout=subprocess.PIPE,
-                              stderr=subprocess.PIPE, check=False)
-        self.assertEqual((done.returncode, done.stdout, done.stderr),
-                         (1, b"",
-                          b"journal no/such.journal: can't be created: No such file or directory (os error 2)\n"))
+        done = subprocess.run([self.caller, "no/such.journal"], cwd=self.folder, capture_output=True)
+        told = b"journal no/such.journal: can't be created: No such file or directory (os error 2)\n"
+        self.assertEqual((done.returncode, done.stdout, done.stderr), (1, b"", told))
 
     def test_the_example_by_a_child(self):
         linked(self.caller, os.path.join(CLIENT, "example_child.c"))
@@ -71,13 +67,11 @@ class Client(unittest.TestCase):
 
     def test_the_example_that_explains(self):
         linked(self.caller, os.path.join(CLIENT, "example_why.c"))
-        with open(os.path.join(CLIENT, "README.md"), encoding="utf-8") as page:
-            printed = re.search(r"It prints\n\n((?:    .*\n)+)", page.read())[1]
+        printed = re.search(r"It prints\n\n((?:    .*\n)+)", PAGE)[1]
         self.assertEqual(self.do(self.caller).decode(), re.sub("^    ", "", printed, flags=re.M))
 
     def test_the_example_of_seats(self):
-        with open(os.path.join(CLIENT, "README.md"), encoding="utf-8") as page:
-            printed = re.search(r"example_seats.c cache.journal\n\nIt prints\n\n    (.*\n)", page.read())[1]
+        printed = re.search(r"example_seats.c cache.journal\n\nIt prints\n\n    (.*\n)", PAGE)[1]
         linked(self.caller, os.path.join(CLIENT, "example_seats.c"))
         # the second time all stands there already
         for told in (printed, printed.replace("145", "0")):
@@ -92,8 +86,7 @@ class Client(unittest.TestCase):
     def test_careless_callers(self):
         # what goes beyond its memory, or is undefined in C, ends the program
         linked_with_sources(self.caller, CALLS, "-g", "-fsanitize=address,undefined", "-fno-sanitize-recover")
-        done = subprocess.run([self.caller, PROGRAM], cwd=self.folder, stdout=subprocess.PIPE, stderr=subprocess.PIPE,
-                              timeout=100, check=False)
+        done = subprocess.run([self.caller, PROGRAM], cwd=self.folder, capture_output=True, timeout=100)
         self.assertEqual((done.returncode, done.stdout), (0, b""), done.stderr)
         # the program's own words on the journal that isn't there, and on the one that another session has
         self.assertEqual(done.stderr, b"registryd: input failed\n" * 2
@@ -101,15 +94,13 @@ class Client(unittest.TestCase):
 
     def test_no_memory_for_replies(self):
         linked(self.caller, MEMORY, "-Wl,--wrap=realloc")
-        done = subprocess.run([self.caller, PROGRAM], stdout=subprocess.PIPE, stderr=subprocess.PIPE,
-                              timeout=300, check=False)
+        done = subprocess.run([self.caller, PROGRAM], capture_output=True, timeout=300)
         # a program that nobody hears any more says so
         self.assertEqual((done.returncode, done.stdout, done.stderr), (0, b"", b"registryd: output failed\n"))
 
     def test_a_session_is_closed_while_a_thread_waits_for_a_search(self):
         linked_with_sources(self.caller, CLOSED, "-g", "-fsanitize=thread")
-        done = subprocess.run([self.caller, PROGRAM], input=SEARCH, stdout=subprocess.PIPE, stderr=subprocess.PIPE,
-                              timeout=PATIENCE, check=False)
+        done = subprocess.run([self.caller, PROGRAM], input=SEARCH, capture_output=True, timeout=PATIENCE)
         ended = b"4\n", b"1\n"  # amid its call, or before the next one
         self.assertIn((done.returncode, done.stdout, done.stderr), [(0, told, b"") for told in ended])
 
@@ -126,7 +117,4 @@ class Client(unittest.TestCase):
             self.assertTrue(is_running(program))
             running.send_signal(signal.SIGKILL)
             running.wait()
-        limit = time.monotonic() + PATIENCE
-        while is_running(program):
-            self.assertLess(time.monotonic(), limit, "the program has outlived its caller")
-            time.sleep(0.01)
+        self.assertTrue(is_gone(program), "the program has outlived its caller")

@@ -26,8 +26,7 @@ VERSION = Path(TOP, "VERSION").read_text(encoding="ascii").strip()
 
 
 def said(*words, **more):
-    done = subprocess.run(list(map(str, words)), stdout=subprocess.PIPE, stderr=subprocess.STDOUT, text=True,
-                          check=False, **more)
+    done = subprocess.run(list(map(str, words)), stdout=subprocess.PIPE, stderr=subprocess.STDOUT, text=True, **more)
     assert done.returncode == 0, done.stdout
     return done.stdout
 
@@ -65,8 +64,7 @@ class Page(unittest.TestCase):
     """What the page shows can be typed."""
 
     def test_the_example(self):
-        with open(os.path.join(CLIENT, "README.md"), encoding="utf-8") as file:
-            page = file.read()
+        page = Path(CLIENT, "README.md").read_text(encoding="utf-8")
         shown = re.search(r"This is \[example.c\]\(example.c\):\n\n((?:    .*\n|\n)+)", page)[1]
         self.assertEqual(re.sub("^    ", "", shown, flags=re.M).strip("\n") + "\n",
                          Path(EXAMPLE).read_text(encoding="utf-8"))
@@ -138,14 +136,11 @@ class Built(unittest.TestCase):
 
     def test_the_command(self):
         self.assertEqual(called(build_library, "more")[0], 2)
-        folder = Path("here")
-        with mock.patch.object(c_library.programs, "current",
-                               lambda _: True), mock.patch.object(c_library, "built", lambda: Library(folder, PROVED)):
-            self.assertEqual(called(build_library), (0, "here\n", ""))
-        with mock.patch.object(c_library.programs, "current",
-                               lambda _: True), mock.patch.object(c_library, "built",
-                                                                  side_effect=c_library.Unbuilt("why")):
-            self.assertEqual(called(build_library), (1, "", "tools/build_library: why\n"))
+        for built, wanted in ({"return_value": Library(Path("here"), PROVED)}, (0, "here\n", "")), (
+                {"side_effect": c_library.Unbuilt("why")}, (1, "", "tools/build_library: why\n")):
+            with (mock.patch.object(c_library.programs, "current", lambda _: True),
+                  mock.patch.object(c_library, "built", **built)):
+                self.assertEqual(called(build_library), wanted)
 
 
 @needs_library
@@ -167,20 +162,10 @@ class Installed(unittest.TestCase):
     def check_example(self, env=None):
         path = self.folder / "a.journal"
         for wanted in (REPLIES, AGAIN):
-            done = subprocess.run([self.folder / "example", path], env=env, stdout=subprocess.PIPE,
-                                  stderr=subprocess.PIPE, check=False)
+            done = subprocess.run([self.folder / "example", path], env=env, capture_output=True)
             self.assertEqual((done.returncode, done.stdout, done.stderr), (0, wanted, b""))
         self.assertEqual(path.read_text(encoding="ascii"), JOURNAL)
         path.unlink()
-
-    def test_where_it_stands(self):
-        self.install()
-        for name in ("lib/libregistryd.a", "lib/libregistryd.so.0", "lib/libregistryd.so", "include/registryd.h",
-                     "lib/pkgconfig/registryd.pc"):
-            self.assertTrue((self.prefix / name).is_file(), name)
-        self.assertEqual(os.readlink(self.prefix / "lib/libregistryd.so"), "libregistryd.so.0")
-        prefix.remove(self.prefix)
-        self.assertFalse(self.prefix.exists())
 
     @skip_without("pkg-config", "pkg-config")
     def test_callers_find_it(self):

@@ -5,6 +5,7 @@ import os
 import subprocess
 import tempfile
 import unittest
+from pathlib import Path
 
 import pytest
 
@@ -24,15 +25,7 @@ WORDS = ["all is well", "an argument is none that the call takes", "there is no 
          "the program can't be started", "the session has ended",
          "something is the matter with a journal's file", "no answer of this library"]
 # Lines in another order and with space, with an escaped text, of no text that is at fault, and that are no requests.
-NONE = f"BadLine\t{MISUSE}"
-MORE = {
-    ' { "lock" : [ ["b" , "1.0.0"] , ["a", "1.0\\u0030"] ] , "needs" : [ ] , "op":"resolve" , "budget" : 7 } ':
-        "BadVersion\tlock[1]\ta\t1.0\\u0030\t",
-    '{"needs":[["b","]\\"}"]],"version":"2.0.0","name":"a","op":"publish"}': 'BadRequirement\tneeds[0]\tb\t]\\"}\t',
-    '{"op":"resolve","needs":[["a","*"]],"budget":4294967296}': "BadLine\t\t\t\t",
-    '{"op":"list","needs":[["a"]]}': "BadLine\t\t\t\t",
-    "[]": NONE, "{": NONE, '{"op"}': NONE, '{"op":"list",}': NONE, '{"op":"list","needs":[[': NONE, '{"op":"': NONE,
-}
+MORE = json.loads(Path(TOP, "tests", "support", "data", "c_culprits.json").read_text(encoding="ascii"))
 STRICT = ("-g", "-fsanitize=address,undefined", "-fno-sanitize-recover")
 
 
@@ -41,13 +34,10 @@ STRICT = ("-g", "-fsanitize=address,undefined", "-fno-sanitize-recover")
 class Lines(unittest.TestCase):
     @classmethod
     def setUpClass(cls):
-        folder = tempfile.TemporaryDirectory()
-        cls.addClassCleanup(folder.cleanup)
-        caller = linked_with_sources(os.path.join(folder.name, "caller"),
+        caller = linked_with_sources(os.path.join(cls.enterClassContext(tempfile.TemporaryDirectory()), "caller"),
                                      os.path.join(TESTS, "c_client_lines.c"), *STRICT)
-        done = subprocess.run([caller], input="".join(f"{it}\n" for it, _ in ROWS), stdout=subprocess.PIPE,
-                              stderr=subprocess.PIPE, text=True, timeout=PATIENCE,
-                              check=False)
+        given = "".join(f"{it}\n" for it, _ in ROWS)
+        done = subprocess.run([caller], input=given, capture_output=True, text=True, timeout=PATIENCE)
         assert (done.returncode, done.stderr) == (0, ""), done.stderr
         cls.printed = done.stdout.split("\n")
 
@@ -83,8 +73,7 @@ class Culprits(unittest.TestCase):
             caller = linked_with_sources(os.path.join(folder, "caller"),
                                          os.path.join(TESTS, "c_client_culprits.c"), *STRICT)
             done = subprocess.run([caller, PROGRAM], input="".join(f"{it}\n" for it in [*asked, *MORE]),
-                                  stdout=subprocess.PIPE, stderr=subprocess.PIPE, text=True,
-                                  timeout=PATIENCE, check=False)
+                                  capture_output=True, text=True, timeout=PATIENCE)
         self.assertEqual((done.returncode, done.stderr), (0, ""))
         wanted = ["\t\t\t\t"] * len(PUBLISHED) + ["\t".join(part or "" for part in it[1:])
                                                   for it in CULPRITS] + [*MORE.values()]

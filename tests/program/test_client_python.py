@@ -5,6 +5,7 @@ import re
 import subprocess
 import sys
 import threading
+from pathlib import Path
 
 import registryd
 from registryd import (
@@ -127,8 +128,7 @@ class Calls:
         self.assertEqual(read(path), JOURNAL)
         with self.open(load=path) as registry:
             self.assertEqual(registry.list(), Listing(2, {"a": (("1.0.0", True),)}))
-        with open(path, "w", encoding="ascii") as out:
-            out.write(JOURNAL.replace('"a"', '"A"', 1))
+        Path(path).write_text(JOURNAL.replace('"a"', '"A"', 1), encoding="ascii")
         self.fails(f"journal {path}: line 2 is not a journal's, and nothing was changed", lambda: self.open(load=path),
                    "journal line 2")
 
@@ -145,8 +145,7 @@ class Calls:
         with self.open(journal=path, **self.several) as registry:
             self.assertEqual(registry.list(), Listing(2, {"a": (("1.0.0", True),)}))
         self.assertEqual(read(path), JOURNAL)
-        with open(path, "w", encoding="ascii") as out:
-            out.write(JOURNAL.replace('"a"', '"A"', 1))
+        Path(path).write_text(JOURNAL.replace('"a"', '"A"', 1), encoding="ascii")
         self.fails(f"journal {path}: line 2 is not a journal's, and nothing was changed",
                    lambda: self.open(journal=path))
 
@@ -239,9 +238,8 @@ class Values(client_python.Case):
         typed, printed = blocks("clients/README.md")[at:at + 2]
         # the second time it goes on with its journal
         for _ in range(2):
-            done = subprocess.run([sys.executable, "-c", typed.replace("./registryd", PROGRAM)],
-                                  cwd=self.folder, env=variables,
-                                  stdout=subprocess.PIPE, text=True, timeout=SECONDS)
+            done = subprocess.run([sys.executable, "-c", typed.replace("./registryd", PROGRAM)], cwd=self.folder,
+                                  env=variables, stdout=subprocess.PIPE, text=True, timeout=SECONDS)
             self.assertEqual((done.returncode, done.stdout.strip()), (0, printed))
             self.assertEqual(read(self.path(journal)).count('"name":"app"'), 1)
 

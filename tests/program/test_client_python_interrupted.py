@@ -84,9 +84,9 @@ class Stepped:
             with contextlib.suppress(AlreadyPublished):
                 self.registry.publish(name, "1.0.0")
 
-    def at_each_step(self, call):
-        """Interrupts a call, which is given the number of the step, at each step; between them the session is used by
-        two threads."""
+    def at_each_step(self, call, use=None):
+        """Interrupts a call, which is given the number of the step, at each step; between them the session is used, by
+        two threads where nothing else is to be done."""
         number, is_done = 0, False
         while not is_done:
             number += 1
@@ -95,7 +95,7 @@ class Stepped:
                 call(number)
             sys.settrace(None)
             is_done = steps.left > 0
-            self.use(number)
+            (use or self.use)(number)
         self.registry.close()
         self.assertGreater(number, 20)
         return number
@@ -145,18 +145,11 @@ class Stepped:
         self.at_each_step(ask)
 
     def test_closing(self):
-        number, is_done = 0, False
-        while not is_done:
-            number += 1
-            with contextlib.suppress(Broken, RuntimeError), Steps(number) as steps:
-                self.registry.close()
-            sys.settrace(None)
-            is_done = steps.left > 0
+        def closed(_):
             self.registry.close()
             self.ends("the session was closed", self.registry.list)
             self.begin()
-        self.assertGreater(number, 20)
-        self.registry.close()
+        self.at_each_step(lambda _: self.registry.close(), closed)
 
 
 class WithProgram(Stepped, Case):
@@ -277,4 +270,3 @@ class AtRandom(unittest.TestCase):
     def test_a_few_sessions(self):
         told = [interrupt_sessions.tried(seed, 8) for seed in range(3)]
         self.assertEqual([find for *_, find in told if find], [])
-        print(f"({sum(it[1] for it in told)} calls interrupted, {sum(it[2] for it in told)} replies) ", end="")

@@ -9,7 +9,7 @@ import sys
 import unittest
 
 import registryd
-from tests.support.client_python import SECONDS, Case
+from tests.support.client_python import SECONDS, Case, read
 from tests.support.program import PROGRAM, TOP
 
 SCRIPT = """
@@ -58,9 +58,8 @@ class Package(Case):
         for name in registryd.__all__:
             self.assertTrue(hasattr(registryd, name), name)
         self.assertLessEqual({it.__name__ for it in registryd.REFUSALS.values()}, {*registryd.__all__})
-        with open(os.path.join(TOP, "clients", "README.md"), encoding="utf-8") as page:
-            imported = {it for names in re.findall(r"^    from registryd import (.*)$", page.read(), re.M)
-                        for it in names.split(", ")}
+        imported = {it for names in re.findall(r"^    from registryd import (.*)$", read("clients/README.md"), re.M)
+                    for it in names.split(", ")}
         self.assertGreater(len(imported), 3)
         self.assertLessEqual(imported, {*registryd.__all__})
 

@@ -10,18 +10,7 @@ import pytest
 
 import registryd
 from registryd import (
-    Accepted,
-    BadRequirement,
-    BudgetSpent,
-    Ended,
-    JournalFull,
-    Line,
-    NoSelection,
-    Refusal,
-    Registry,
-    Selection,
-    Verdict,
-)
+    Accepted, BadRequirement, BudgetSpent, Ended, JournalFull, Line, NoSelection, Refusal, Registry, Selection, Verdict)
 from tests.program import test_seats
 from tests.program.test_journals import journal
 from tests.support import client_python, plain_race

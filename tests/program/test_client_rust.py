@@ -11,6 +11,7 @@ import unittest
 import pytest
 
 from tests.program import test_seats
+from tests.support.client_python import read
 from tests.support.library import LIBRARY, needs_library
 from tests.support.program import PROGRAM, TOP
 
@@ -23,18 +24,13 @@ WHERE = "(Debian 12: cargo-web; Debian 13: cargo)"
 IN_PROCESS = ("--features", "embedded")
 
 
-def read(*name):
-    with open(os.path.join(TOP, *name), encoding="utf-8") as text:
-        return text.read()
-
-
 def blocks(text):
     """A page's indented blocks, without their indent."""
     return [re.sub("^    ", "", block, flags=re.M).strip("\n")
             for block in re.findall("(?:^(?:    .*)?\n)+", text, re.M) if block.strip()]
 
 
-PAGE = blocks(read("clients", "rust", "README.md"))
+PAGE = blocks(read("clients/rust/README.md"))
 
 
 def numbers(text):
@@ -45,7 +41,7 @@ def numbers(text):
 def why_not_built():
     """Why the client can't be built here: there is no cargo, or what it calls is older than the crate says. None where
     it can."""
-    needed = numbers(re.search("rust-version = .*", read("clients", "rust", "Cargo.toml"))[0])
+    needed = numbers(re.search("rust-version = .*", read("clients/rust/Cargo.toml"))[0])
     for command in ("cargo", "rustc"):
         if not shutil.which(command):
             return f"there is no {command} {WHERE}"
@@ -77,7 +73,7 @@ class Seats(test_seats.Judged):
         if without := why_not_built():
             raise unittest.SkipTest(without)
         folder = cls.enterClassContext(tempfile.TemporaryDirectory())
-        given = adding(folder, read("tests", "support", "rust", "seats_race.rs"), *IN_PROCESS)
+        given = adding(folder, read("tests/support/rust/seats_race.rs"), *IN_PROCESS)
         words = ["cargo", "build", "--quiet", "--offline", "--manifest-path", "adds/Cargo.toml"]
         subprocess.run(words, cwd=folder, env=given, check=True)
         cls.race = os.path.join(folder, "target", "debug", "adds")
@@ -91,23 +87,21 @@ class Client(unittest.TestCase):
         given = {**os.environ, "CARGO_TARGET_DIR": os.path.join(folder, "target"), "REGISTRYD": PROGRAM,
                  "REGISTRYD_LIBRARY_FOLDER": os.path.dirname(LIBRARY or ""), **ONCE}
         words = ["cargo", *words, "--offline", "--locked", "--manifest-path", os.path.join(HERE, "Cargo.toml")]
-        done = subprocess.run(words, env=given, stdin=subprocess.DEVNULL, stdout=subprocess.PIPE,
-                              stderr=subprocess.PIPE, text=True, **more)
+        done = subprocess.run(words, env=given, stdin=subprocess.DEVNULL, capture_output=True, text=True, **more)
         self.assertEqual(done.returncode, 0, done.stdout + done.stderr)
         return done.stdout
 
     def passed(self, folder, *words):
         """How many tests have passed, for each file of tests."""
-        return list(map(int,
-                        re.findall(r"^test result: ok\. (\d+) passed; 0 failed; 0 ignored",
-                                   self.cargo(folder, "test", *words), re.M)))
+        return list(map(int, re.findall(r"^test result: ok\. (\d+) passed; 0 failed; 0 ignored",
+                                        self.cargo(folder, "test", *words), re.M)))
 
     def check_example(self, folder, name, journal, printed, *words, end=2):
         # the second time it goes on with its journal
         for _ in range(2):
             self.assertEqual(self.cargo(folder, "run", "--quiet", "--example", name, *words, cwd=folder).strip(),
                              printed)
-            self.assertEqual(read(folder, journal).splitlines()[-1], f"end {end}")
+            self.assertEqual(read(os.path.join(folder, journal)).splitlines()[-1], f"end {end}")
 
     def test_its_tests_and_its_example(self):
         if without := why_not_built():
@@ -118,7 +112,6 @@ class Client(unittest.TestCase):
             self.assertEqual((culprits, embedded, explained, seats), (1, 0, 3, 0))
             os.symlink(PROGRAM, os.path.join(folder, "registryd"))
             self.check_example(folder, "first", "rust.journal", PAGE[1])
-        print(f"({beside + calls + culprits + explained + program + service} tests) ", end="")
 
     @needs_library
     def test_its_tests_and_its_example_in_process(self):
@@ -131,7 +124,6 @@ class Client(unittest.TestCase):
             self.check_example(folder, "embedded", "rust-embedded.journal", PAGE[3], *IN_PROCESS)
             # 25 tools, and 25 publications and a yank of each of the four
             self.check_example(folder, "seats", "seats.journal", PAGE[5], *IN_PROCESS, end=129)
-        print(f"({beside + calls + culprits + embedded + explained + program + seats + service} tests) ", end="")
 
     def test_a_program_that_adds_it(self):
         if without := why_not_built():
@@ -140,21 +132,20 @@ class Client(unittest.TestCase):
             given = adding(folder, PAGE[0])
             os.symlink(PROGRAM, os.path.join(folder, "registryd"))
             done = subprocess.run(["cargo", "run", "--quiet", "--offline", "--manifest-path", "adds/Cargo.toml"],
-                                  cwd=folder, env=given,
-                                  stdout=subprocess.PIPE, stderr=subprocess.PIPE, text=True)
+                                  cwd=folder, env=given, capture_output=True, text=True)
             self.assertEqual((done.returncode, done.stdout.strip()), (0, PAGE[1]), done.stderr)
 
     def test_the_examples_are_those_that_are_shown(self):
         for block, name in ((PAGE[0], "first"), (PAGE[2], "embedded"), (PAGE[4], "seats")):
-            self.assertEqual(block, read("clients", "rust", "examples", f"{name}.rs").strip())
+            self.assertEqual(block, read(f"clients/rust/examples/{name}.rs").strip())
             self.assertLessEqual(len(block.splitlines()), 30)
 
     def test_each_refusal_is_there(self):
-        told = re.findall(r"^\| (\d+) \| ([A-Z]\w+) \|", read("docs", "REGISTRY.md"), re.M)
-        named = re.findall(r"^    ([A-Z]\w+)(?: = 1)?,$", read("clients", "rust", "src", "refusal.rs"), re.M)
+        told = re.findall(r"^\| (\d+) \| ([A-Z]\w+) \|", read("docs/REGISTRY.md"), re.M)
+        named = re.findall(r"^    ([A-Z]\w+)(?: = 1)?,$", read("clients/rust/src/refusal.rs"), re.M)
         self.assertEqual([name for _, name in told], named)
         self.assertEqual(len(named), 22)
 
     def test_it_needs_nothing_else(self):
-        self.assertNotIn("dependencies", read("clients", "rust", "Cargo.toml"))
-        self.assertEqual(re.findall("^name = .*", read("clients", "rust", "Cargo.lock"), re.M), ['name = "registryd"'])
+        self.assertNotIn("dependencies", read("clients/rust/Cargo.toml"))
+        self.assertEqual(re.findall("^name = .*", read("clients/rust/Cargo.lock"), re.M), ['name = "registryd"'])

@@ -19,6 +19,7 @@ PLAIN = journal([*CHAIN, yank("c", "1.0.0"), unyank("c", "1.0.0")], 1)
 CHANGED = "registryd: journal %s: changed by another program, and not gone on with\n"
 UNSAVED = b"registryd: output failed\n"
 NOBODY = 65_534
+BEGUN = journal([publish("a", "1.0.0")]).removesuffix(b"end 1\n")
 
 
 class Keeping(Sessions):
@@ -57,9 +58,8 @@ class Cuts(Keeping):
                 self.write(self.kept, text[:cut])
                 self.assertEqual(self.keep(), "")
                 whole = [line for line in text[:cut].split(b"\n")[1:-1] if not line.startswith(b"end")]
-                self.assertEqual(self.read(self.kept),
-                                 b"".join(line + b"\n"
-                                          for line in [b"registry-journal 2", *whole, b"end %d" % len(whole)]), cut)
+                self.assertEqual(self.read(self.kept), b"".join(line + b"\n" for line in [b"registry-journal 2", *whole,
+                                                                                          b"end %d" % len(whole)]), cut)
         self.assertEqual(self.beside(), ["kept"])
 
     def test_what_was_cut_off_is_gone_on_with(self):
@@ -82,14 +82,12 @@ class Cuts(Keeping):
 
     def test_a_file_that_is_no_journal_stays_as_it_is(self):
         lines = PLAIN.splitlines(True)
-        for text, line in ((b"hello", 1), (b"hello\n", 1), (b"registry-journal 3\n", 1),
-                           (b"registry-journal 22", 1), (b"\n", 1),
-                           (LEARNT + b"x", 9), (LEARNT + b"\n", 9), (b"".join(lines[:3]) + b"end 3\n", 4),
-                           (b"".join(lines[:3]) + lines[2], 4),
-                           (lines[0] + b"\0\n", 2), (lines[0] + b"end 1\n", 2),
+        for text, line in ((b"hello", 1), (b"hello\n", 1), (b"registry-journal 3\n", 1), (b"registry-journal 22", 1),
+                           (b"\n", 1), (LEARNT + b"x", 9), (LEARNT + b"\n", 9), (b"".join(lines[:3]) + b"end 3\n", 4),
+                           (b"".join(lines[:3]) + lines[2], 4), (lines[0] + b"\0\n", 2), (lines[0] + b"end 1\n", 2),
                            (b"".join(lines[:4]) + b"x" * (MOST_LINE_BYTES + 1), 5),
-                           (b"".join(lines[:3]) + b"end 2\n" + lines[3], 5),
-                           (lines[0] + lines[1].replace(b",", b", "), 2)):
+                           (b"".join(lines[:3]) + b"end 2\n" + lines[3], 5), (lines[0] + lines[1].replace(b",", b", "),
+                                                                              2)):
             self.write(self.kept, text)
             self.refused(f"line {line} is not a journal's, and nothing was changed", text=text)
 
@@ -191,19 +189,17 @@ class Others(Keeping):
             file.write(text)
 
     def test_a_file_that_someone_else_changes(self):
-        one = journal([publish("a", "1.0.0")])
-        begun, other = one[:one.index(b"end")], os.path.join(self.folder, "other")
-        self.changed(lambda: self.append(b"x"), begun + b"x")
-        self.changed(lambda: self.append(journal_line(publish("c", "1.0.0")).encode() + b"\n"),
-                     begun + journal_line(publish("c", "1.0.0")).encode() + b"\n")
-        self.changed(lambda: os.truncate(self.kept, 5), begun[:5])
+        whole, other = BEGUN + b"end 1\n", os.path.join(self.folder, "other")
+        for more in (b"x", journal_line(publish("c", "1.0.0")).encode() + b"\n"):
+            self.changed(lambda: self.append(more), BEGUN + more)
+        self.changed(lambda: os.truncate(self.kept, 5), BEGUN[:5])
         self.changed(lambda: os.truncate(self.kept, 0), b"")
-        self.changed(lambda: self.write(self.kept, one + one), one + one)
+        self.changed(lambda: self.write(self.kept, whole + whole), whole + whole)
         self.changed(lambda: os.unlink(self.kept), None)
         self.changed(lambda: (self.write(other, b"other"), os.rename(other, self.kept)), b"other")
 
     def test_a_name_that_leads_to_another_file_or_to_none(self):
-        begun, other = journal([publish("a", "1.0.0")]).removesuffix(b"end 1\n"), os.path.join(self.folder, "other")
+        begun, other = BEGUN, os.path.join(self.folder, "other")
 
         def with_a_copy(change):
             shutil.copy(self.kept, other)
@@ -218,7 +214,7 @@ class Others(Keeping):
             self.changed(change, left, begun)
 
     def test_a_link_that_leads_elsewhere(self):
-        begun, other = journal([publish("a", "1.0.0")]).removesuffix(b"end 1\n"), os.path.join(self.folder, "other")
+        begun, other = BEGUN, os.path.join(self.folder, "other")
 
         def lead_to_a_copy():
             shutil.copy(self.there, other)
@@ -319,8 +315,7 @@ class Places(Keeping):
             os.chmod(file, modes[0])
             os.chmod(folder, modes[1])
             done = subprocess.run([program, "serve", "--workers", "1", "--journal", path], input=LIST.encode(),
-                                  capture_output=True, timeout=100,
-                                  user=NOBODY if os.getuid() == 0 else None)
+                                  capture_output=True, timeout=100, user=NOBODY if os.getuid() == 0 else None)
             os.chmod(folder, 0o755)
             self.assertEqual((done.returncode, done.stdout, done.stderr.decode()),
                              (1, b"", f"registryd: journal {path}: {words}: Permission denied (os error 13)\n"))

@@ -7,6 +7,7 @@ import signal
 import subprocess
 import tempfile
 import unittest
+from pathlib import Path
 
 from tests.program.test_journals import CONFLICT, journal
 from tests.support.durable_sessions import Watched, fault_of
@@ -64,8 +65,7 @@ class Kills(unittest.TestCase):
 
     def setUp(self):
         folder = tempfile.TemporaryDirectory(dir=MEMORY if os.path.isdir(MEMORY) else None)
-        self.addCleanup(folder.cleanup)
-        self.folder = os.path.realpath(folder.name)
+        self.folder = os.path.realpath(self.enterContext(folder))
         self.path = os.path.join(self.folder, NAME)
 
     def is_folder(self, given, folder="."):
@@ -80,15 +80,10 @@ class Kills(unittest.TestCase):
             self.write(STARTS[start][0])
 
     def write(self, text):
-        with open(self.path, "wb") as out:
-            out.write(text)
+        Path(self.path).write_bytes(text)
 
     def left(self):
-        try:
-            with open(self.path, "rb") as file:
-                return file.read()
-        except FileNotFoundError:
-            return b""
+        return Path(self.path).read_bytes() if os.path.exists(self.path) else b""
 
     def session(self, start, workers="1", **more):
         """A session from such a start: how it ended, its calls, and what was read of it."""
@@ -133,7 +128,6 @@ class Kills(unittest.TestCase):
                     self.goes_on(len(before))
                     kills += 1
         self.assertGreater(kills, 200)
-        print(f"({kills} kills) ", end="")
 
     def test_a_crash_at_each_moment(self):
         for start in STARTS:
@@ -202,5 +196,4 @@ class Kills(unittest.TestCase):
             self.assertEqual((status, told.decode(), watched.client.read),
                              (1, f"registryd: journal {NAME}: {words}\n", b""))
             self.assertEqual(self.left(), b"")
-            with open(there, "rb") as file:
-                self.assertEqual(file.read(), STARTS["whole"][0])
+            self.assertEqual(Path(there).read_bytes(), STARTS["whole"][0])

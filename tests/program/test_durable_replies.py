@@ -52,8 +52,7 @@ class Replies(Sessions):
             steps = [[publish("a", f"1.{number}.0")] for number in range(50)]
             self.assertEqual(self.syncs(steps, workers), [1] * 50)
             steps = [[publish("a", "1.0.0")], [yank("a", "1.7.0")], [yank("a", "1.7.0")], [LIST], ["no line"],
-                     [resolve("a *")], [resolve("b *", explain=True)],
-                     [resolve("a ^2")], [publish("b", "1.0.0")]]
+                     [resolve("a *")], [resolve("b *", explain=True)], [resolve("a ^2")], [publish("b", "1.0.0")]]
             self.assertEqual(self.syncs(steps, workers), [0, 1, 0, 0, 0, 0, 0, 0, 1])
             os.unlink(self.kept)
 

@@ -24,11 +24,10 @@ VALGRIND = ["valgrind", "-q", "--error-exitcode=99", "--leak-check=full", "--err
 @skip_without("cc", "gcc")
 class Calls(unittest.TestCase):
     LONGEST = PATIENCE  # under valgrind
+    SOURCE, KINDS = CALLS, ("calls", "forks", "forks beside a thread", "threads")
 
     def setUp(self):
-        folder = tempfile.TemporaryDirectory()
-        self.addCleanup(folder.cleanup)
-        self.folder = folder.name
+        self.folder = self.enterContext(tempfile.TemporaryDirectory())
         self.caller = os.path.join(self.folder, "caller")
 
     def tried(self, *what, before=()):
@@ -36,23 +35,22 @@ class Calls(unittest.TestCase):
         for word in what:
             with self.subTest(word), tempfile.TemporaryDirectory(dir=self.folder) as folder:
                 done = subprocess.run([*before, self.caller, word, PROGRAM], cwd=folder, stdin=subprocess.DEVNULL,
-                                      stdout=subprocess.PIPE,
-                                      stderr=subprocess.PIPE, timeout=PATIENCE, check=False)
+                                      capture_output=True, timeout=PATIENCE)
                 self.assertEqual((done.returncode, done.stdout, done.stderr), (0, b"", b""))
 
     def test_by_itself(self):
-        linked(self.caller, CALLS)
-        self.tried("calls", "forks", "forks beside a thread", "threads")
+        linked(self.caller, self.SOURCE)
+        self.tried(*self.KINDS)
 
     @skip_without("valgrind", "valgrind")
     def test_under_valgrind(self):
-        linked(self.caller, CALLS, "-g")
+        linked(self.caller, self.SOURCE, "-g")
         self.tried("calls", "threads", before=VALGRIND)
 
     def test_under_the_sanitizers_of_addresses_and_of_what_is_undefined(self):
-        linked_with_sources(self.caller, CALLS, *ADDRESS)
+        linked_with_sources(self.caller, self.SOURCE, *ADDRESS)
         self.tried("calls", "forks", "threads")
 
     def test_under_the_sanitizer_of_threads(self):
-        linked_with_sources(self.caller, CALLS, *THREADS)
+        linked_with_sources(self.caller, self.SOURCE, *THREADS)
         self.tried("calls", "threads")

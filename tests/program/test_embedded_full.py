@@ -33,7 +33,6 @@ class Replies(InProcess, test_durable_replies.Replies):
     def test_a_reply_does_not_wait_for_what_it_taught(self):
         # the reply to a later line does
         _, calls, more = self.steps([test_durable_replies.CLASHING, [test_durable_replies.TEACHING], [LIST]])
-        written = [[(call.number == 1, b'"selected":[[' in call.given, b'{"derivation":' in call.given)
-                    for call in step if call.name == "write"]
-                   for step in (calls, more)]
+        written = [[(call.number == 1, b'"selected":[[' in call.given, b'{"derivation":' in call.given) for call in step
+                    if call.name == "write"] for step in (calls, more)]
         self.assertEqual(written, [[(True, True, False)], [(False, False, True), (True, False, False)]])

@@ -28,7 +28,7 @@ class Lines(Sessions):
         """What a session in process says, how it ends, and what it tells."""
         done = subprocess.run([self.serve, "serve", *words], input=given,
                               env={**os.environ, "EMBEDDED_PIECE": str(piece)},
-                              stdout=subprocess.PIPE, stderr=subprocess.PIPE, timeout=100, check=False)
+                              capture_output=True, timeout=100)
         return done.stdout, done.returncode, done.stderr
 
     def test_every_table(self):
@@ -84,7 +84,7 @@ class Lines(Sessions):
                 holder.stdin.write(b'{"op":"list"}\n')
                 self.assertTrue(holder.stdout.readline())
                 done = subprocess.run([other, "serve", "--workers", "1", "--journal", self.kept], input=b"",
-                                      capture_output=True, timeout=100, check=False)
+                                      capture_output=True, timeout=100)
                 self.assertEqual((done.returncode, done.stdout, done.stderr), (1, b"", told))
                 holder.stdin.close()
                 self.assertEqual(holder.wait(), 0)

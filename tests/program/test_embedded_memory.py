@@ -44,14 +44,12 @@ class Memory(unittest.TestCase):
         self.assertEqual(behind, LAST_RUNS, f"no end of requests at {number}")
 
     def test_each_request_of_a_session(self):
-        early = short = ended = 0
+        early = short = 0
         for done, replies, missing in self.refuse_each([], LINES):
             self.assertLessEqual(missing + done.returncode, done.came)
             early += bool(done.returncode and not replies)
-            ended += bool(done.returncode and replies)
             short += missing
         self.assertTrue(early > 2 and short > 20, (early, short))
-        print(f"({early} not opened, {short} answered 18, {ended} ended) ", end="")
 
     def test_each_request_of_a_session_that_saves(self):
         saved = unsaved = 0
@@ -82,4 +80,3 @@ class Memory(unittest.TestCase):
                 again = run(["serve", "--workers", "1", "--journal", f"{done.folder}/kept"], f"{LIST}\n".encode())
                 self.assertEqual((again.returncode, again.stderr, again.stdout.count(b"\n")), (0, b"", 1), done.number)
         self.assertTrue(whole > 100 and ended > 5, (whole, ended))
-        print(f"({whole} whole, {ended} ended) ", end="")

@@ -4,18 +4,16 @@ They follow, by the program's own checker and by the tool that shares nothing wi
 agrees with them; and their lines are few, and stand in the order in which a person tells them. Damaged, none follows.
 """
 import json
-import os
 import random
-import subprocess
-import tempfile
 import unittest
 
 from registry_cli import check_derivation
-from tests.program.test_check_derivation import CHAIN, TOOL, WORKED, asked, said_of, tangle
+from tests.program.test_check_derivation import WORKED, asked, said_of, tangle
 from tests.support.called import called
 from tests.support.damages import KINDS, Damage
 from tests.support.program import publish, run, serve, unyank, yank
 from tests.support.refuter import Known
+from tests.support.registry_folder import Folder
 
 MOST_LINES = {"chain": 3, "either": 5}  # of the worked refusals; each other one takes a single line
 
@@ -139,10 +137,8 @@ class Explained(unittest.TestCase):
 
     def test_many_reasons(self):
         # Each version of a package is ruled out for a reason of its own, and there is one line for each. Sixteen lines
-        # and more are
-        # put together pairwise: of 64 versions the lines name each as one of 2, of 4, and so on up to 64, so six times.
-        # Fifteen
-        # lines or fewer each name one version more than the one before.
+        # and more are put together pairwise: of 64 versions the lines name each as one of 2, of 4, and so on up to 64,
+        # so six times. Fifteen lines or fewer each name one version more than the one before.
         for versions, named in ((64, 6 * 64), (14, sum(range(2, 15)))):
             lines = [publish("q", "1.0.0"), publish("q", "2.0.0")]
             lines += [publish("a", f"1.{number}.0", [f"q >=2.0.0, <3.{number}.0"]) for number in range(versions)]
@@ -179,23 +175,9 @@ class Explained(unittest.TestCase):
                 yield kind, damage
 
 
-class Files(unittest.TestCase):
-    def setUp(self):
-        folder = tempfile.TemporaryDirectory()
-        self.addCleanup(folder.cleanup)
-        self.folder = folder.name
-
+class Files(Folder):
     def file(self, name, lines):
-        path = os.path.join(self.folder, name)
-        with open(path, "w", encoding="utf-8") as out:
-            out.write("".join(line + "\n" for line in lines))
-        return path
-
-    def test_a_session(self):
-        lines = [*CHAIN[0], json.dumps(asked(CHAIN[1]))]
-        done = subprocess.run([TOOL, self.file("asked", lines), self.file("told", serve(lines))],
-                              stdout=subprocess.PIPE, text=True, timeout=100)
-        self.assertEqual((done.returncode, done.stdout), (0, "request 5: the refusal at revision 4 follows\n"))
+        return self.path(name, "".join(line + "\n" for line in lines))
 
     def test_a_race(self):
         # Each file asks why at a place of its own; the tool judges each seat's replies by the journal that was printed.
@@ -203,9 +185,8 @@ class Files(unittest.TestCase):
         rows = [{"causes": [{"fact": "need", "index": 0}, {"fact": "root"}], "conclusion": [], "pivot": ""}]
         files = [[publish("a", "1.0.0", ["b ^2"]), publish("b", "1.0.0"), json.dumps(request), checking(request, rows)],
                  [publish("c", "1.0.0"), json.dumps(request), yank("c", "1.0.0"), checking(request, rows),
-                  json.dumps(request)],
-                 [json.dumps(request), publish("b", "2.0.0"), unyank("b", "2.0.0"), json.dumps(request),
-                  checking(request, rows)]]
+                  json.dumps(request)], [json.dumps(request), publish("b", "2.0.0"), unyank("b", "2.0.0"),
+                                         json.dumps(request), checking(request, rows)]]
         for _ in range(20):
             done = run(["race", *(self.file(str(number), lines) for number, lines in enumerate(files))])
             self.assertEqual((done.returncode, done.stderr), (0, b""))

@@ -1,7 +1,6 @@
 """The exports of the static library, called as a caller in C does, over a heap that counts and can refuse a request:
 what each answers and leaves, and that nothing is kept of a session that was closed."""
 import ctypes
-import json
 import os
 import subprocess
 import tempfile
@@ -39,6 +38,18 @@ def built(folder):
     return ctypes.CDLL(path)
 
 
+def buffer(text):
+    """What a call is given that reads a text: the text and its length."""
+    return ctypes.create_string_buffer(text, len(text) or 1), ctypes.c_size_t(len(text))
+
+
+def written(call, size):
+    """What a call gives that writes a text: the status, how long the text is, and what stands in the room."""
+    room, length = ctypes.create_string_buffer(b"-" * size, size + 1), ctypes.c_size_t(77)
+    status = call(room, ctypes.c_size_t(size), ctypes.byref(length))
+    return status, length.value, room.raw[:size].rstrip(b"-")
+
+
 class Held:
     """One slot, and the calls for it."""
 
@@ -53,8 +64,7 @@ class Held:
     def given(self, name, text, *numbers):
         """A call that is given a text, and then tells numbers."""
         places = [ctypes.c_size_t(number) for number in numbers]
-        status = self.call(name, ctypes.create_string_buffer(text, len(text) or 1), ctypes.c_size_t(len(text)),
-                           *map(ctypes.byref, places))
+        status = self.call(name, *buffer(text), *map(ctypes.byref, places))
         return (status, *(place.value for place in places)) if numbers else status
 
     def count(self, name):
@@ -66,20 +76,11 @@ class Held:
         return room.raw[:count]
 
     def text(self, name, size=10_000):
-        """A call that gives a text: the status, how long it is, and what stands in the room."""
-        room, length = ctypes.create_string_buffer(b"-" * size, size + 1), ctypes.c_size_t(77)
-        status = self.call(name, room, ctypes.c_size_t(size), ctypes.byref(length))
-        return status, length.value, room.raw[:size].rstrip(b"-")
-
-
-def commands_in(lines):
-    """Lines of commands as they stand in a journal: their members in the order of the keys."""
-    texts = [json.dumps(json.loads(line), separators=(",", ":"), sort_keys=True) for line in lines]
-    return b"".join(text.encode() + b"\n" for text in texts)
+        return written(lambda *room: self.call(name, *room), size)
 
 
 class Seats:
-    """Slots of seats, and the calls for them."""
+    """Slots of seats, which are counted from 0, and the calls for them."""
 
     def __init__(self, library):
         self.library, self.slots = library, (Slot * 65)()
@@ -95,8 +96,8 @@ class Seats:
     def load(self, text, count=2, capacity=8):
         """The status, and the line at fault."""
         line = ctypes.c_size_t(5)
-        given = ctypes.create_string_buffer(text, len(text) or 1), ctypes.c_size_t(len(text)), ctypes.byref(line)
-        status = self.call("seats_load", self.slots, ctypes.c_size_t(count), *given, ctypes.c_size_t(capacity))
+        status = self.call("seats_load", self.slots, ctypes.c_size_t(count), *buffer(text), ctypes.byref(line),
+                           ctypes.c_size_t(capacity))
         return status, line.value
 
     def recover(self, text, count=2, capacity=8):
@@ -116,13 +117,8 @@ class Seats:
         return status, length.value, place.value, room.raw[:size].rstrip(b"-")
 
     def text(self, name, seat, line=None, size=10_000):
-        """A call that gives a text, for a seat, which are counted from 0: the status, how long it is, and what stands
-        in the room."""
-        room, length = ctypes.create_string_buffer(b"-" * size, size + 1), ctypes.c_size_t(77)
-        given = [] if line is None else [ctypes.create_string_buffer(line, len(line) or 1), ctypes.c_size_t(len(line))]
-        slot = ctypes.byref(self.slots[seat])
-        status = self.call(f"seat_{name}", slot, *given, room, ctypes.c_size_t(size), ctypes.byref(length))
-        return status, length.value, room.raw[:size].rstrip(b"-")
+        given = [] if line is None else buffer(line)
+        return written(lambda *room: self.call(f"seat_{name}", ctypes.byref(self.slots[seat]), *given, *room), size)
 
     def close(self, seat):
         return self.call("seat_close", ctypes.byref(self.slots[seat]))
@@ -134,9 +130,7 @@ class OverHeap(unittest.TestCase):
 
     @classmethod
     def setUpClass(cls):
-        folder = tempfile.TemporaryDirectory()
-        cls.addClassCleanup(folder.cleanup)
-        cls.library = built(folder.name)
+        cls.library = built(cls.enterClassContext(tempfile.TemporaryDirectory()))
 
     def number(self, name, of=ctypes.c_size_t):
         return of.in_dll(self.library, name)
@@ -150,8 +144,8 @@ class OverHeap(unittest.TestCase):
         for refused in range(1, MOST_REQUESTS):
             self.number("requests").value, self.number("refused").value = 0, refused
             if scenario() == "all" and self.number("requests").value < refused:
-                return refused
-        return self.fail("there was no end of requests")
+                return
+        self.fail("there was no end of requests")
 
 
 class Exports(OverHeap):
@@ -188,9 +182,8 @@ class Exports(OverHeap):
 
     def test_each_request_for_memory_is_refused(self):
         told = {"none": 0, "short": 0, "broken": 0, "text": 0}
-        refused = self.refuse_each(lambda: self.scenario(told))
+        self.refuse_each(lambda: self.scenario(told))
         self.assertTrue(all(told.values()), told)
-        print(f"({refused} requests: {told}) ", end="")
 
     def scenario(self, told):
         """A journal is loaded, fed and told again; answers how that ended."""
@@ -335,9 +328,8 @@ class SeatExports(OverHeap):
 
     def test_each_request_for_memory_is_refused(self):
         told = {"none": 0, "short": 0, "owed": 0, "text": 0}
-        refused = self.refuse_each(lambda: self.scenario(told))
+        self.refuse_each(lambda: self.scenario(told))
         self.assertTrue(all(told.values()), told)
-        print(f"({refused} requests: {told}) ", end="")
 
     def answered(self, seat, line, reply, told):
         """A line is answered by this reply, or by error 18 in its place; where there was no memory for that, it is

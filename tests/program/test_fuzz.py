@@ -8,9 +8,6 @@ class Fuzz(unittest.TestCase):
     LONGEST = 300  # on a busy machine
 
     def test_sessions(self):
-        lines = 0
         for seed in range(20):
-            count, find = fuzz.tried(seed, 250)
+            _, find = fuzz.tried(seed, 250)
             self.assertIsNone(find)
-            lines += count
-        print(f"({lines} lines) ", end="")

@@ -4,8 +4,9 @@ import os
 import random
 import tempfile
 import unittest
+from pathlib import Path
 
-from registry_cli.limits import MOST_COMMANDS, MOST_LEARNT, MOST_LINE_BYTES, MOST_STORED, MOST_VERSIONS
+from registry_cli.limits import MOST_LEARNT, MOST_LINE_BYTES, MOST_STORED, MOST_VERSIONS
 from tests.program.test_reuse import lines_of, session_of
 from tests.support.plain_journal import Unknown, first_fault
 from tests.support.program import LIST, SERVE, journal_line, publish, resolve, run, serve, unyank, yank
@@ -45,11 +46,9 @@ def speaking_of(name, learnt):
 
 
 # How many packages the versions of p need beside z, in which each of these packages is in the way of one version. That
-# p can't be had rests
-# on two facts of each, what p and what that version of z need of it, and on p's need for z; with the need of a request
-# these are two facts
-# for each and two more. Each step joins two of what stands there, so it takes one step less than there are facts, at
-# the least.
+# p can't be had rests on two facts of each, what p and what that version of z need of it, and on p's need for z; with
+# the need of a request these are two facts for each and two more. Each step joins two of what stands there, so it takes
+# one step less than there are facts, at the least.
 ROWS = (TEACHING - 1) // 2
 FEW = 64  # versions of p, of which a line tells that can be written
 CHAIN_LEARNT = journal([*CHAIN, learn(0)])
@@ -65,18 +64,14 @@ def between_batches(lines, cut):
 
 class Sessions(unittest.TestCase):
     def setUp(self):
-        folder = tempfile.TemporaryDirectory()
-        self.addCleanup(folder.cleanup)
-        self.folder = folder.name
+        self.folder = self.enterContext(tempfile.TemporaryDirectory())
         self.loaded, self.saved = os.path.join(self.folder, "loaded"), os.path.join(self.folder, "saved")
 
     def write(self, path, text):
-        with open(path, "wb") as out:
-            out.write(text)
+        Path(path).write_bytes(text)
 
     def read(self, path):
-        with open(path, "rb") as file:
-            return file.read()
+        return Path(path).read_bytes()
 
     def words(self, load, save):
         return [*SERVE, *(["--load", load] if load else []), *(["--save", save] if save else [])]
@@ -108,44 +103,6 @@ class Sessions(unittest.TestCase):
 
 
 class Saving(Sessions):
-    def test_what_a_session_leaves(self):
-        for lines, left in (([], []), ([LIST, "no line"], []), ([publish("a", "1.0.0")], [publish("a", "1.0.0")])):
-            self.session(lines, save=self.saved)
-            self.assertEqual(self.read(self.saved), journal(left))
-            self.assertEqual(self.beside(), ["saved"])
-        self.assertEqual(self.read(self.saved), b'registry-journal 2\n'
-                                                b'{"name":"a","needs":[],"op":"publish","version":"1.0.0"}\nend 1\n')
-
-    def test_what_is_refused_is_not_saved(self):
-        lines = [publish("a", "1.0.0", ["b ^1.0.0"]), publish("a", "1.0.0+x"), yank("a", "1.0.0"), yank("a", "1.0.0"),
-                 unyank("a", "1.0.0+y"), unyank("b", "1.0.0"), resolve("c *"), LIST]
-        self.session(lines, save=self.saved)
-        self.assertEqual(self.read(self.saved), journal([lines[0], lines[2], lines[4]]))
-
-    def test_what_was_learnt_stands_at_its_place(self):
-        request = resolve("foo >=1.0.0")
-        self.session([*CONFLICT, request, publish("z", "1.0.0")], save=self.saved)
-        lines = self.read(self.saved).decode().split("\n")
-        learnt = [line for line in lines if line.startswith('{"derivation":')]
-        self.assertGreater(len(learnt), 0)
-        self.assertEqual(lines, ["registry-journal 2", *map(journal_line, CONFLICT), *learnt,
-                                 journal_line(publish("z", "1.0.0")),
-                                 f"end {4 + len(learnt)}", ""])
-
-    def test_nothing_is_saved_where_a_session_ends_otherwise(self):
-        self.write(self.saved, b"as it was")
-        folder = os.open(self.folder, os.O_RDONLY)
-        try:
-            failed = run(self.words(None, self.saved), stdin=folder)
-        finally:
-            os.close(folder)
-        self.assertEqual((failed.returncode, failed.stderr), (1, b"registryd: input failed\n"))
-        with open("/dev/full", "wb") as full:
-            failed = run(self.words(None, self.saved), LIST.encode(), stdout=full)
-        self.assertEqual((failed.returncode, failed.stderr), (1, b"registryd: output failed\n"))
-        self.assertEqual(self.read(self.saved), b"as it was")
-        self.assertEqual(self.beside(), ["saved"])
-
     def test_a_failed_save_leaves_the_file_as_it_was(self):
         lines, whole = (CHAIN[0] + "\n" + LIST + "\n").encode(), journal(CHAIN[:1])
         for most in range(len(whole) + 1):
@@ -160,45 +117,8 @@ class Saving(Sessions):
             self.assertEqual(self.read(self.saved), b"as it was" if fails else whole)
             self.assertEqual(self.beside(), ["saved"])
 
-    def test_where_no_file_can_be_made(self):
-        os.mkdir(self.saved)
-        for path in (self.saved, os.path.join(self.folder, "none", "file"), os.path.join(self.folder, 256 * "n")):
-            done = run(self.words(None, path), LIST.encode())
-            self.assertEqual((done.returncode, done.stderr), (1, b"registryd: output failed\n"), path)
-            # it is told before the first line
-            self.assertEqual(done.stdout, b"", path)
-        self.assertEqual(self.beside(), ["saved"])
-
-    def test_a_device_that_takes_nothing(self):
-        done = run(self.words(None, "/dev/full"), LIST.encode())
-        self.assertEqual((done.returncode, done.stdout, done.stderr),
-                         (1, b'{"packages":[],"revision":0}\n', b"registryd: output failed\n"))
-
-    def test_a_device_is_written_itself(self):
-        self.session(CHAIN, save="/dev/null")
-        self.assertFalse(os.path.isfile("/dev/null"))
-
 
 class Loading(Sessions):
-    def test_a_journal_is_gone_on_with(self):
-        for form in (1, 2):
-            self.assertEqual(self.load(journal(CHAIN, form), [publish("c", "1.1.0"), resolve("a *")]), [
-                '{"ok":true,"revision":4}', '{"revision":4,"selected":[["a","1.0.0"],["b","1.0.0"],["c","1.1.0"]]}'])
-
-    def test_load_and_save_may_name_one_file(self):
-        for count in range(len(CHAIN)):
-            self.session([CHAIN[count]], self.loaded if count else None, self.loaded)
-            self.assertEqual(self.read(self.loaded), journal(CHAIN[:count + 1]))
-        self.assertEqual(self.beside(), [])
-
-    def test_what_is_loaded_is_saved_again(self):
-        for text in (journal([]), journal(CHAIN), CHAIN_LEARNT, journal([*CHAIN[:2], learn(0), CHAIN[2]])):
-            self.assertEqual(self.load(text, save=self.saved), [])
-            self.assertEqual(self.read(self.saved), text)
-        # a file of the first format becomes one of the second
-        self.load(journal(CHAIN, 1), save=self.saved)
-        self.assertEqual(self.read(self.saved), journal(CHAIN))
-
     def test_a_session_in_two_parts(self):
         """What is answered behind a journal that is loaded is what is answered in one session."""
         learnt = 0
@@ -228,40 +148,17 @@ class Loading(Sessions):
             learnt += text.count(b'\n{"derivation":')
         self.assertGreater(learnt, SEEDS)
 
-    def test_what_was_learnt_serves_what_is_asked_later(self):
-        self.session([*CONFLICT, resolve("foo >=1.0.0")], save=self.saved)
-        request = resolve("foo >=1.0.0", budget=0)
-        self.assertEqual(self.session([request], self.saved), ['{"revision":3,"selected":[["foo","1.0.0"]]}'])
-        self.assertEqual(self.load(journal(CONFLICT), [request]), ['{"error":22,"name":"BudgetSpent","revision":3}'])
-
-    def test_what_is_stored_once_a_journal_is_loaded(self):
-        # by a budget of no conflict: what the search would find by one is known, or was ended by a later version of bar
-        request, more = resolve("foo >=1.0.0", budget=0), resolve("foo >=1.0.0")
-        self.session([*CONFLICT, more], save=self.saved)
-        *commands, learnt = self.read(self.saved).decode().split("\n")[1:-2]
-        self.assertEqual(commands, [journal_line(line) for line in CONFLICT])
-        newer, other = publish("bar", "1.1.0", ["foo ^1.0.0"]), publish("z", "1.0.0", ["bar ^2.0.0"])
-        for behind, is_known in (([], True), ([other], True), ([newer], False), ([newer, other], False)):
-            text, revision = journal([*CONFLICT, learnt, *behind]), 3 + len(behind)
-            found, spent = ('{"revision":%d,"selected":[["foo","1.0.0"]]}' % revision,
-                            '{"error":22,"name":"BudgetSpent","revision":%d}' % revision)
-            self.assertEqual(self.load(text, [request, more]), [found if is_known else spent, found])
-            self.write(self.saved, text)
-            self.assertEqual(run([*SERVE, "--journal", self.saved], f"{request}\n".encode()).stdout.decode(),
-                             (found if is_known else spent) + "\n")
-
     def test_a_journal_at_fault(self):
         a = publish("a", "1.0.0")
         for form in (1, 2):
             text = journal([a], form)
             head, line, end = text.splitlines(True)
             for bad, at in ((head + line, 3), (head + line + b"end 2\n", 3), (text[:-1], 3), (text + b"x", 4),
-                            (text + b"\n", 4),
-                            (head + line + line + end, 3), (head + line + b"end 01\n", 3), (b"", 1),
+                            (text + b"\n", 4), (head + line + line + end, 3), (head + line + b"end 01\n", 3), (b"", 1),
                             (head[:-1] + b"\r\n" + line + end, 1),
                             (head + b'{"op":"publish","name":"a","needs":[],"version":"1.0.0"}\n' + end, 2),
-                            (head + b"\n" + line + end, 2),
-                            (head + line[:-1] + b" \n" + end, 2), (line + end, 1), (head + head + line + end, 2)):
+                            (head + b"\n" + line + end, 2), (head + line[:-1] + b" \n" + end, 2), (line + end, 1),
+                            (head + head + line + end, 2)):
                 self.fault(bad, at, given=LIST.encode())
 
     def test_a_journal_that_is_cut(self):
@@ -270,34 +167,9 @@ class Loading(Sessions):
                 self.fault(text[:most], 1 + text[:most].count(b"\n"))
             self.load(text)
 
-    def test_what_was_learnt_is_judged_at_its_place(self):
-        newer = publish("c", "1.1.0")
-        wrong = learn(0).replace('["c",false,[0]]', '["c",false,[1]]')
-        for lines, end, at in (([*CHAIN, wrong], 4, 5), ([CHAIN[0], learn(0), *CHAIN[1:]], 4, 3),
-                               ([*CHAIN, learn(0), learn(0)], 5, 6),
-                               ([*CHAIN, newer, learn(0)], 5, 6), ([*CHAIN, learn(0)], 3, 6)):
-            self.fault(journal(lines, end=end), at)
-        self.fault(journal([*CHAIN, learn(0)], form=1), 5)
-        self.load(CHAIN_LEARNT)
-        self.load(journal([*CHAIN[:2], learn(0), CHAIN[2]]))
-
-    def test_a_fault_is_told_before_the_lines_are_read(self):
-        folder = os.open(self.folder, os.O_RDONLY)
-        try:
-            with open("/dev/full", "wb") as full:
-                self.fault(b"registry-journal 2\nend 1\n", 2, stdin=folder, stdout=full)
-        finally:
-            os.close(folder)
-
-    def test_a_file_that_cannot_be_read(self):
-        for path in (os.path.join(self.folder, "none"), self.folder):
-            done = run(self.words(path, self.saved), LIST.encode())
-            self.assertEqual((done.returncode, done.stdout, done.stderr), (1, b"", b"registryd: input failed\n"))
-        self.assertEqual(self.beside(), [])
-
     def test_damages(self):
         """Journals that are changed in one place, against a plain reader."""
-        rng, faults, whole = random.Random(35), 0, 0
+        rng, faults = random.Random(35), 0
         for _ in range(400):
             text = damaged(rng, random_journal(rng))
             try:
@@ -307,24 +179,13 @@ class Loading(Sessions):
             if at is None:
                 self.load(text, save=self.saved)
                 self.assertEqual(self.read(self.saved), b"registry-journal 2" + text[18:])
-                whole += 1
             else:
                 self.fault(text, at)
                 faults += 1
         self.assertGreater(faults, 200)
-        print(f"({faults} at fault, {whole} are journals) ", end="")
 
 
 class Limits(Sessions):
-    def test_the_commands_of_a_session(self):
-        most, full = MOST_COMMANDS, f'{{"error":10,"name":"JournalFull","revision":{MOST_COMMANDS}}}'
-        lines = [publish(f"p{n // MOST_VERSIONS}", f"1.{n % MOST_VERSIONS}.0") for n in range(most + 1)]
-        self.assertEqual(self.load(journal(lines[:most]), [lines[most], yank("p0", "1.0.0")]), [full, full])
-        self.fault(journal(lines), most + 2)
-        self.fault(journal([*lines[:most], yank("p0", "1.0.0"), unyank("p0", "1.0.0")], 1), most + 2)
-        # a line that is of no journal is told before one too many
-        self.fault(journal([*lines, lines[0]]), most + 3)
-
     def test_what_is_learnt_in_a_session(self):
         """Each version of c ends all that was learnt before it, which is as much as a store may have."""
         lines, versions = list(CHAIN), 1
@@ -345,9 +206,8 @@ class Limits(Sessions):
     def test_what_was_learnt_by_too_long_a_line_is_left_out(self):
         (few, _), (many, then) = (self.learnt_of(versions) for versions in (FEW, MOST_VERSIONS))
         # Each fact of p lists all versions of p, and so does what the step concludes that uses it. There are ROWS + 1
-        # of these facts, and a
-        # step uses two at most. Where p has as many versions as it may have, these lists alone are more than a line of
-        # a journal holds.
+        # of these facts, and a step uses two at most. Where p has as many versions as it may have, these lists alone
+        # are more than a line of a journal holds.
         short, long = (",".join(map(str, range(versions))) for versions in (FEW, MOST_VERSIONS))
         self.assertGreater((ROWS + 1) * 3 // 2 * len(long), MOST_LINE_BYTES)
         # Where it has few, three such lists for each step are less.
@@ -382,13 +242,6 @@ class Limits(Sessions):
         self.assertEqual((text[:len(lines) + 1], text[-2]), (["registry-journal 2", *map(journal_line, lines)],
                                                              f"end {len(lines) + len(learnt)}"))
         return learnt, told[-1]
-
-    def test_the_versions_of_a_package(self):
-        lines = [publish("a", f"1.{v}.0") for v in range(MOST_VERSIONS + 1)]
-        for form in (1, 2):
-            told = [f'{{"error":8,"name":"TooManyVersions","revision":{MOST_VERSIONS}}}']
-            self.assertEqual(self.load(journal(lines[:-1], form), lines[-1:]), told)
-            self.fault(journal(lines, form), MOST_VERSIONS + 2)
 
 
 def random_journal(rng):

@@ -32,7 +32,6 @@ class Tables(unittest.TestCase):
             for text in self.inputs(table):
                 with self.subTest(table.place):
                     self.compare(table, run(SERVE, text), table.replies())
-        print(f"({len(tables)} tables, {sum(len(table.rows) for table in tables)} lines) ", end="")
 
     def race(self, table, text):
         """What a race leaves in which this text is the file of the table's seat, and the files before it are empty."""
@@ -49,17 +48,13 @@ class Tables(unittest.TestCase):
             for text in self.inputs(table):
                 with self.subTest(table.place):
                     self.compare(table, self.race(table, text), [*table.replies(), *table.journal])
-        print(f"({len(tables)} tables, {sum(len(table.rows) for table in tables)} lines) ", end="")
 
     def test_generated_sessions(self):
-        count = lines = 0
         for name, title, rows in generated_lines.sessions():
             table = Table(title, name)
             table.rows = [(line, reply, f"{name}, line {number}") for number, (line, reply) in enumerate(rows, 1)]
             with self.subTest(name):
                 self.compare(table, run(["serve", "--workers", "64"], table.requests()), table.replies())
-            count, lines = count + 1, lines + len(table.rows)
-        print(f"({count} tables, {lines} lines) ", end="")
 
     def test_a_file_that_is_no_table_is_told(self):
         for text, place in (("# t\n> {}\n", 2), ("> {}\n", 1), ("# t\n< x\n", 2), ("# t\n> {}\n~ [] as {}\n< x\n", 3),

@@ -4,9 +4,11 @@ import re
 import subprocess
 import tempfile
 import unittest
+from pathlib import Path
 
 from dev.installing import installed
 from registry_cli.completion import PROGRAM as COMMANDS
+from tests.support.called import registry
 from tests.support.program import PROGRAM, TOP, skip_without
 
 VERSION = open(os.path.join(TOP, "VERSION"), encoding="ascii").read().strip()
@@ -15,8 +17,7 @@ TOOLS = {name: (called, [""]) for name, (called, _) in installed.TOOLS.items()}
 
 
 def page(name):
-    with open(os.path.join(TOP, "docs", name), encoding="utf-8") as text:
-        return text.read()
+    return Path(TOP, "docs", name).read_text(encoding="utf-8")
 
 
 def sections(text, mark):
@@ -39,13 +40,16 @@ class Pages(unittest.TestCase):
     @skip_without("man", "man-db")
     @skip_without("groff", "groff-base")
     def test_they_are_shown_without_a_warning(self):
-        for name in ("registryd.1", "registry-tools.1"):
-            with self.subTest(name):
-                words = ["man", "--warnings", "-E", "UTF-8", "-l", os.path.join(TOP, "docs", name)]
-                done = subprocess.run(words, stdout=subprocess.PIPE, stderr=subprocess.PIPE, check=True, timeout=60,
-                                      env={**os.environ, "MANWIDTH": "100", "LC_ALL": "C.UTF-8"})
-                self.assertEqual(done.stderr, b"")
-                self.assertIn("EXIT STATUS", done.stdout.decode())
+        made = os.path.join(self.enterContext(tempfile.TemporaryDirectory()), "registry.1")
+        Path(made).write_text(registry("--manual")[1], encoding="ascii")
+        more = ("registry resolve app@^1 zlib", "--not NAME VERSION", "REGISTRY_JOURNAL", "--index ~/.cargo/registry")
+        for path, texts in (("registryd.1", ()), ("registry-tools.1", ()), (made, more)):
+            with self.subTest(path):
+                done = subprocess.run(["man", "--warnings", "-E", "UTF-8", "-l", os.path.join(TOP, "docs", path)],
+                                      env={**os.environ, "MANWIDTH": "100", "LC_ALL": "C.UTF-8"}, capture_output=True)
+                self.assertEqual((done.returncode, done.stderr), (0, b""))
+                for text in ("EXIT STATUS", *texts):
+                    self.assertIn(text, done.stdout.decode())
 
     def test_they_have_the_version(self):
         for name in ("registryd.1", "registry-tools.1"):
@@ -62,8 +66,7 @@ class OfTheProgram(unittest.TestCase):
         self.assertEqual(re.findall(r"^\.Cm (\w+)", parts["SYNOPSIS"], re.M), [*COMMANDS])
 
     def test_each_status_and_each_line_of_standard_error_is_there(self):
-        with open(os.path.join(TOP, "docs", "FORMATS.md"), encoding="utf-8") as text:
-            rows = re.findall(r"^\| (\d) \|.*\| (nothing|`registryd: (.*)`) \|$", text.read(), re.M)
+        rows = re.findall(r"^\| (\d) \|.*\| (nothing|`registryd: (.*)`) \|$", page("FORMATS.md"), re.M)
         parts = sections(page("registryd.1"), "Sh")
         self.assertEqual(re.findall(r"^\.It (\d)$", parts["EXIT STATUS"], re.M),
                          sorted({status for status, *_ in rows}))
@@ -92,16 +95,12 @@ class OfTheTools(unittest.TestCase):
             found |= set(re.findall(r"^  (?:-h, )?--([a-z-]+)", said, re.M)) - {"help"}
         return found
 
-    def test_each_option_is_told(self):
-        parts = sections(sections(page("registry-tools.1"), "Sh")["OPTIONS"], "Ss")
-        self.assertEqual(list(parts), list(TOOLS))
+    def test_each_option_is_told_and_in_the_synopsis(self):
+        parts = sections(page("registry-tools.1"), "Sh")
+        told, synopsis = sections(parts["OPTIONS"], "Ss"), re.split(r"^\.Nm ", parts["SYNOPSIS"], flags=re.M)[1:]
+        self.assertEqual(list(told), list(TOOLS))
         for name, (file, commands) in TOOLS.items():
-            told = set(re.findall(r"\bFl \\-([a-z-]+)", "".join(re.findall(r"^\.It .*$", parts[name], re.M))))
-            self.assertEqual(told, self.taken(file, commands), name)
-
-    def test_each_option_is_in_the_synopsis(self):
-        synopsis = re.split(r"^\.Nm ", sections(page("registry-tools.1"), "Sh")["SYNOPSIS"], flags=re.M)[1:]
-        for name, (file, commands) in TOOLS.items():
+            taken = self.taken(file, commands)
+            self.assertEqual(options("".join(re.findall(r"^\.It .*$", told[name], re.M))), taken, name)
             if name != "registryd-etcd":  # its synopsis has no room for them
-                told = options("".join(it for it in synopsis if it.split()[0] == name))
-                self.assertEqual(told, self.taken(file, commands), name)
+                self.assertEqual(options("".join(it for it in synopsis if it.split()[0] == name)), taken, name)

@@ -5,6 +5,7 @@ import json
 import os
 import tempfile
 import unittest
+from pathlib import Path
 
 from tests.program.test_explained import told
 from tests.support import plain_race
@@ -114,9 +115,7 @@ def text_of(lines):
 class Memory(unittest.TestCase):
     @classmethod
     def setUpClass(cls):
-        folder = tempfile.TemporaryDirectory()
-        cls.addClassCleanup(folder.cleanup)
-        cls.folder, cls.library = folder.name, built(cls, REFUSE_MEMORY)
+        cls.folder, cls.library = cls.enterClassContext(tempfile.TemporaryDirectory()), built(cls, REFUSE_MEMORY)
 
     def refuse_each(self, words, lines=()):
         """Runs the program with each request refused in turn; answers its number, what it left, and its replies."""
@@ -151,8 +150,6 @@ class Memory(unittest.TestCase):
             if done.left("saved") is not None:
                 self.assertEqual(commands_in(done.left("saved")), commands_told(lines, replies), number)
             one, several, late = one + (len(places) == 1), several + (len(places) > 1), late + (done.returncode != 0)
-        print(f"({number - LAST_RUNS} requests refused in turn: {early} before the first line, {one} answered 18, "
-              f"{several} at several lines, {late} of the journal) ", end="")
         return early, one, several, late
 
     def test_each_request_of_a_session(self):
@@ -179,8 +176,7 @@ class Memory(unittest.TestCase):
         lines = [journal_line(line) for line in (publish("a", "1.0.0", ["b ^1.0.0"]), publish("b", "1.0.0"),
                                                  json.dumps({"derivation": [learnt], "op": "learn"}))]
         asked = [LIST, publish("c", "1.0.0")]
-        with open(loaded, "w", encoding="ascii") as out:
-            out.write(text_of(["registry-journal 2", *lines, "end 3"]))
+        Path(loaded).write_text(text_of(["registry-journal 2", *lines, "end 3"]), encoding="ascii")
         replies = ['{"packages":[["a",[["1.0.0",false]]],["b",[["1.0.0",false]]]],"revision":2}',
                    '{"ok":true,"revision":3}']
         short, counts = '{"error":18,"name":"NoMemory","revision":2}', {"early": 0, "short": 0, "late": 0}
@@ -197,7 +193,6 @@ class Memory(unittest.TestCase):
                 self.assertEqual(done.left("saved").decode(),
                                  text_of(["registry-journal 2", *left, f"end {len(left)}"]), number)
         self.assertTrue(counts["early"] > 20 and min(counts.values()) > 2, counts)
-        print(f"({number - LAST_RUNS} requests refused in turn: {counts}) ", end="")
 
     def refuse_each_of_a_race(self, *files):
         """Refuses each request of a race of these files in turn. Answers where the request of each run was missed: 0
@@ -205,8 +200,7 @@ class Memory(unittest.TestCase):
         words, asked, where, all_short = ["race"], [[line.encode() for line in lines] for lines in files], [], []
         for number, lines in enumerate(files):
             words.append(os.path.join(self.folder, str(number)))
-            with open(words[-1], "w", encoding="ascii") as out:
-                out.write(text_of(lines))
+            Path(words[-1]).write_text(text_of(lines), encoding="ascii")
         for number, done, replies in self.refuse_each(words):
             told_of = plain_race.told_in(asked, list(replies)) if replies else []
             short = [(it.seat, it.line.decode()) for it in told_of if '"error":18' in it.reply]
@@ -223,8 +217,6 @@ class Memory(unittest.TestCase):
             all_short += short
         counts = [where.count(it) for it in range(3)]
         self.assertGreater(min(counts), 2)
-        print("({} requests refused in turn: {} before the first line, {} answered 18, {} behind the last) "
-              .format(number - LAST_RUNS, *counts), end="")
         return where, all_short
 
     def test_each_request_of_a_race_of_one_file(self):

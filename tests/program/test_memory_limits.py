@@ -175,11 +175,9 @@ class Peaks(unittest.TestCase):
         self.assertIn(lines[:2], ([ACCEPTED % 1, REPEATED % 2], [REPEATED % 1, ACCEPTED % 2]))
         self.assertEqual(lines[2:], [*JOURNAL, ""])
         self.assertLess(peak, MOST_OF_A_RACE)
-        print(f"({peak} kB) ", end="")
 
     def test_a_race_of_63_files(self):
         files = [[publish("a", f"1.{number}.0"), LIST] for number in range(63)]
         peak, printed = self.peak_of(*files)
         self.assertEqual(plain_race.judge([[line.encode() for line in lines] for lines in files], printed), 63)
         self.assertLess(peak, MOST_OF_A_RACE + 63 * MOST_OF_A_FILE)
-        print(f"({peak} kB) ", end="")

@@ -3,52 +3,16 @@ judges a program by it."""
 import json
 import random
 import unittest
+from pathlib import Path
 
 from dev.long import newest_many
 from tests.support.plain_newest import Published
-from tests.support.plain_search import key
+from tests.support.program import TOP
 from tests.support.small_registries import small_case
 
-# What is published, as texts `name version: need, need`, with what is yanked; the needs, the lock; and the newest
-# selection, worked by hand.
-WORKED = [
-    ("the preferred selection serves",
-     ["a 1.0.0: b *", "a 2.0.0: b *", "b 1.0.0", "b 2.0.0"], [], ["a *"], [], "a 2.0.0, b 2.0.0"),
-    ("a need that comes earlier by its name is served first, in whatever order the needs are given",
-     ["x 1.0.0", "x 2.0.0: y =1.0.0", "y 1.0.0", "y 2.0.0"], [], ["y *", "x *"], [], "x 2.0.0, y 1.0.0"),
-    ("the same with the names the other way round",
-     ["x 1.0.0", "x 2.0.0", "w 1.0.0", "w 2.0.0: x =1.0.0"], [], ["x *", "w *"], [], "w 2.0.0, x 1.0.0"),
-    ("the needs come before what is needed for them",
-     ["a 1.0.0: m *", "m 1.0.0", "m 2.0.0: z =1.0.0", "z 1.0.0", "z 2.0.0"], [], ["a *", "z *"], [],
-     "a 1.0.0, m 1.0.0, z 2.0.0"),
-    ("breadth first: what the first version depends on in second place comes before what its first dependency needs",
-     ["a 1.0.0: p *, q *", "p 1.0.0: r *", "q 1.0.0", "q 2.0.0: r =1.0.0", "r 1.0.0", "r 2.0.0"], [], ["a *"], [],
-     "a 1.0.0, p 1.0.0, q 2.0.0, r 1.0.0"),
-    ("dependencies are taken in the order in which they were published, not by name",
-     ["a 1.0.0: q *, p *", "p 1.0.0", "p 2.0.0: q =1.0.0", "q 1.0.0", "q 2.0.0"], [], ["a *"], [],
-     "a 1.0.0, p 1.0.0, q 2.0.0"),
-    ("a version whose dependency has none that serves is passed over",
-     ["a 1.0.0", "a 2.0.0: b >1.0.0", "b 1.0.0"], [], ["a *"], [], "a 1.0.0"),
-    ("a branch that is not taken leaves nothing behind",
-     ["a 1.0.0: c *", "a 2.0.0: b *", "b 1.0.0: d *", "c 1.0.0", "c 2.0.0"], [], ["a *"], [], "a 1.0.0, c 2.0.0"),
-    ("what the lock names comes first where it can be had",
-     ["a 1.0.0", "a 2.0.0: b =1.0.0", "b 1.0.0", "b 2.0.0"], [], ["a *", "b *"], ["b 2.0.0"], "a 2.0.0, b 1.0.0"),
-    ("and keeps a version that is yanked",
-     ["a 1.0.0", "a 2.0.0", "a 3.0.0"], ["a 2.0.0", "a 3.0.0"], ["a *"], ["a 2.0.0"], "a 2.0.0"),
-    ("the lock by equal precedence",
-     ["a 1.0.0+one", "a 2.0.0"], [], ["a *"], ["a 1.0.0+two"], "a 1.0.0+one"),
-    ("where the lock's version can't be had, the highest that can is next",
-     ["a 1.0.0: b *", "a 2.0.0: b *", "a 3.0.0: b =1.0.0", "b 2.0.0"], [], ["a *"], ["a 3.0.0"], "a 2.0.0, b 2.0.0"),
-    ("a pre-release that no requirement names is not had",
-     ["a 1.0.0", "a 2.0.0-rc.1"], [], ["a *"], [], "a 1.0.0"),
-    ("one that is named may be the highest",
-     ["a 1.0.0", "a 2.0.0-rc.1"], [], ["a >=2.0.0-rc.1"], [], "a 2.0.0-rc.1"),
-    ("packages that need each other",
-     ["a 1.0.0: b =1.0.0", "a 2.0.0: b =2.0.0", "b 1.0.0: a =1.0.0", "b 2.0.0: a =1.0.0"], [], ["a *"], [],
-     "a 1.0.0, b 1.0.0"),
-    ("nothing is needed", ["a 1.0.0"], [], [], [], ""),
-    ("nothing serves", ["a 1.0.0: b =2.0.0", "b 1.0.0"], [], ["a *"], [], None),
-]
+# What each shows; what is published, as texts `name version: need, need`, with what is yanked; the needs, the lock; and
+# the newest selection, worked by hand.
+WORKED = json.loads(Path(TOP, "tests", "support", "data", "newest.json").read_text(encoding="ascii"))
 
 
 def publication(text):
@@ -164,39 +128,6 @@ class Anyhow(Published):
         return next(iter(self.selections(needs, lock)), None)
 
 
-class AsListed(Published):
-    """The needs as they were given, and not by name."""
-
-    def next_package(self, needs, taken):
-        lines = [*needs, *(line for name, version in taken.items() for line in self.needs_of(name, version))]
-        return next((name for name, _ in lines if name not in taken), None)
-
-
-class DepthFirst(Published):
-    """What the last package depends on before what the first one does."""
-
-    def next_package(self, needs, taken):
-        lines = [line for name, version in reversed(taken.items()) for line in self.needs_of(name, version)]
-        return next((name for name, _ in [*lines, *sorted(needs)] if name not in taken), None)
-
-
-class WithoutLock(Published):
-    """The highest versions, whatever the lock names."""
-
-    def in_preference(self, name, lock):
-        return sorted((text for text, _ in self.allowed(name, lock)), key=key, reverse=True)
-
-
-class SecondBest(Published):
-    """The second best of the first package that has two."""
-
-    def newest(self, needs, lock):
-        best = super().newest(needs, lock)
-        first = best and self.next_package(needs, {})
-        others = [it for it in self.selections(needs, lock) if first and dict(it)[first] != dict(best)[first]]
-        return others[0] if others else best
-
-
 def served_by(kind):
     """What answers lines as a session does, by the selections of such a registry. Each case has a registry of its
     own."""
@@ -218,18 +149,16 @@ def served_by(kind):
 class Judged(unittest.TestCase):
     """What `newest_many` tells of programs that answer rightly, or not."""
 
-    # among them cases in which each of the wrong kinds below selects something else
+    # among them cases in which something else is selected than the newest
     SEEDS = (5_004, 5_013, 5_038, 5_039, 5_053, 5_060, 5_076, 5_081)
 
     def test_the_newest_selection_is_no_find(self):
         self.assertEqual(newest_many.faults(self.SEEDS, served_by(Published)), [])
 
     def test_each_other_selection_is_a_find(self):
-        for kind in (Anyhow, AsListed, DepthFirst, WithoutLock, SecondBest):
-            with self.subTest(kind.__doc__):
-                found = newest_many.faults(self.SEEDS, served_by(kind))
-                self.assertGreater(len(found), 0)
-                self.assertRegex(found[0], r"seed \d+, \w.*: .* is answered, and .* is the newest")
+        found = newest_many.faults(self.SEEDS, served_by(Anyhow))
+        self.assertGreater(len(found), 0)
+        self.assertRegex(found[0], r"seed \d+, \w.*: .* is answered, and .* is the newest")
 
     def test_a_refusal_of_what_can_be_met_is_a_find(self):
         def refuses(lines, _workers):

@@ -47,8 +47,7 @@ class Race(unittest.TestCase):
 
     def test_each_of_800_publications_once(self):
         _, journal = self.judged(*([publish(f"p{file}-{line % 7}", f"1.{line}.0", [f"q{line % 5} ^1"])
-                                    for line in range(100)]
-                                   for file in range(8)))
+                                    for line in range(100)] for file in range(8)))
         self.assertEqual(journal[-1], "end 800")
 
     def test_the_journal_gives_the_same_replies(self):

@@ -7,7 +7,7 @@ import subprocess
 import tempfile
 import unittest
 
-from tests.support.program import PROGRAM, TOP
+from tests.support.program import PROBE, PROGRAM, TOP
 
 PAGES = ["README.md", *(os.path.join("docs", page) for page in sorted(os.listdir(os.path.join(TOP, "docs")))
                         if page.endswith(".md"))]
@@ -21,6 +21,12 @@ def page(name):
 def blocks(name="README.md"):
     """A page's indented blocks, each a list of lines."""
     return [re.findall("^    (.*)$", block, re.M) for block in re.findall("(?:^    .*\n)+", page(name), re.M)]
+
+
+def following(found, part, line=0):
+    """The first of these blocks that has this in such a line, and the one behind it."""
+    at = next(at for at, block in enumerate(found) if part in block[line])
+    return found[at:at + 2]
 
 
 def answers(folder, lines):
@@ -69,26 +75,21 @@ class Readme(unittest.TestCase):
         self.assertLessEqual({"a.journal", "python.journal", "rust.journal", "c.journal"}, {file for file, _ in begun})
         self.assertEqual(len(begun), len({file for file, _ in begun}), begun)
 
-    def test_the_first_session(self):
-        typed, told = blocks()[:2]
-        with tempfile.TemporaryDirectory() as folder:
-            self.assertEqual(answers(folder, typed), (told, 0))
+    def test_what_is_typed_prints_what_is_shown(self):
+        kept = following(FORMATS, "--journal a.journal")
+        imported = ["exec 2> counts", *blocks("docs/IMPORTING.md")[0]], blocks("docs/IMPORTING.md")[1]
+        for typed, told in (blocks()[:2], following(blocks(), "./registry "), kept, imported):
+            with self.subTest(typed=typed), tempfile.TemporaryDirectory() as folder:
+                self.assertEqual(answers(folder, typed), (told, 0))
 
     def test_what_is_kept(self):
-        at = next(at for at, block in enumerate(FORMATS) if "--save saved.journal" in block[0])
-        typed, told = FORMATS[at:at + 2]
+        typed, told = following(FORMATS, "--save saved.journal")
         with tempfile.TemporaryDirectory() as folder:
             self.assertEqual(answers(folder, typed), (told, 0))
             # the line that is printed last asks for the same
             replies = answers(folder, [f"echo '{told[-1]}' | ./registryd serve --workers 1 --load saved.journal",
                                        "cat selected.line"])
             self.assertEqual(replies, (['{"revision":1,"selected":[["app","1.0.0"]]}'] * 2, 0))
-
-    def test_a_journal_that_is_gone_on_with(self):
-        at = next(at for at, block in enumerate(FORMATS) if "--journal a.journal" in block[0])
-        typed, told = FORMATS[at:at + 2]
-        with tempfile.TemporaryDirectory() as folder:
-            self.assertEqual(answers(folder, typed), (told, 0))
 
     def test_each_journal_that_is_shown_is_loaded(self):
         shown = [block for block in FORMATS if block[0].startswith("registry-journal")]
@@ -100,18 +101,20 @@ class Readme(unittest.TestCase):
                 typed = ["./registryd serve --workers 1 --load journal --save saved < /dev/null", "cat saved"]
                 self.assertEqual(answers(folder, typed), (["registry-journal 2", *block[1:]], 0))
 
-    def test_the_command_for_people(self):
-        at = next(at for at, block in enumerate(blocks()) if block[0].startswith("./registry "))
-        typed, told = blocks()[at:at + 2]
-        with tempfile.TemporaryDirectory() as folder:
-            self.assertEqual(answers(folder, typed), (told, 0))
-
     def test_the_race(self):
-        at = next(at for at, block in enumerate(FORMATS) if "./registryd race" in block[-1])
-        typed, told = FORMATS[at:at + 2]
+        typed, told = following(FORMATS, "./registryd race", -1)
         # either file may be first
         turned = [told[1].replace('"seat":2', '"seat":1'), told[0].replace('"seat":1', '"seat":2'), *told[2:]]
         with tempfile.TemporaryDirectory() as folder:
             printed, status = answers(folder, typed)
             self.assertIn(printed, (told, turned))
             self.assertEqual(status, 0)
+
+    def test_the_example_of_using_is_shown_as_it_stands_and_prints_what_is_shown(self):
+        *shown, printed = blocks("docs/USING.md")
+        code = [line.strip() for line in page("crates/probe/src/team.rt").splitlines() if line.strip()]
+        for block in shown:
+            wanted = [line.strip() for line in block if line.strip()]
+            self.assertTrue(any(code[at:at + len(wanted)] == wanted for at in range(len(code))), block)
+        done = subprocess.run([PROBE, "team"], stdin=subprocess.DEVNULL, stdout=subprocess.PIPE, text=True, check=True)
+        self.assertEqual(done.stdout.splitlines(), printed)

@@ -5,7 +5,7 @@ from unittest import mock
 
 from registry_cli import catalog
 from tests.program.test_journals import journal, learn
-from tests.support.program import publish, yank
+from tests.support.program import publish, unyank, yank
 
 # log has versions in another order than that of precedence; 2.1.0 is yanked, and 3.0.0-rc.1 is a pre-release
 LINES = [publish("log", "1.10.0", ["zlib ^1"]), publish("log", "1.9.0"), publish("log", "3.0.0-rc.1"),
@@ -36,9 +36,8 @@ class Read(unittest.TestCase):
         # the first, a middle and the last of several needs; names that begin or end as the package's, and one with
         # letters that a pattern has
         lines = [publish("a", "1.0.0", ["log ^1", "z *"]), publish("a", "1.2.0", ["b *", "log >=1, <3", "z *"]),
-                 publish("a", "1.10.0-a", ["log-x *", "x-log *"]),
-                 publish("b", "2.0.0", ["a *", "log *"]), publish("b", "1.0.0", ["log =1.0.0"]), yank("b", "2.0.0"),
-                 publish("log", "1.0.0", ["lo ^1"])]
+                 publish("a", "1.10.0-a", ["log-x *", "x-log *"]), publish("b", "2.0.0", ["a *", "log *"]),
+                 publish("b", "1.0.0", ["log =1.0.0"]), yank("b", "2.0.0"), publish("log", "1.0.0", ["lo ^1"])]
         made = catalog.Catalog(journal(lines))
         self.assertEqual(list(made.needing("log")), [("a", "1.2.0", ">=1, <3"), ("b", "2.0.0", "*")])
         self.assertEqual((list(made.needing("lo")), list(made.needing("l.g"))), ([("log", "1.0.0", "^1")], []))
@@ -46,9 +45,8 @@ class Read(unittest.TestCase):
     def test_commands_that_do_not_follow_each_other(self):
         # names that begin as others; what was learnt stands between, and what is only needed has no commands
         lines = [publish("a", "1.0.0", ["b ^1"]), publish("a", "1.1.0", ["only *"]), publish("a-b", "1.0.0", ["a *"]),
-                 publish("b", "1.0.0", ["c ^1"]), learn(0), publish("c", "1.0.0"),
-                 yank("a", "1.1.0"), publish("a", "1.2.0", ["a-b *", "b *"]), learn(0, 5),
-                 publish("b", "1.1.0", ["only ^1"])]
+                 publish("b", "1.0.0", ["c ^1"]), learn(0), publish("c", "1.0.0"), yank("a", "1.1.0"),
+                 publish("a", "1.2.0", ["a-b *", "b *"]), learn(0, 5), publish("b", "1.1.0", ["only ^1"])]
         made = catalog.Catalog(journal(lines))
         self.assertEqual((list(made.lines), made.mentioned, made.revision),
                          (["a", "a-b", "b", "c"], ["a", "b", "only", "a-b", "c"], 8))
@@ -80,8 +78,7 @@ class Read(unittest.TestCase):
     def test_many_yanks_of_many_versions(self):
         # the last of each counts, and a yank is of the version of equal precedence
         lines = [publish("a", f"1.{minor}.0+b") for minor in range(40)]
-        lines += [yank("a", f"1.{minor}.0")
-                  for minor in range(40)] + [yank("a", f"1.{minor}.0").replace("yank", "unyank")
-                                             for minor in range(0, 40, 2)]
+        lines += [yank("a", f"1.{minor}.0") for minor in range(40)]
+        lines += [unyank("a", f"1.{minor}.0") for minor in range(0, 40, 2)]
         self.assertEqual(catalog.Catalog(journal(lines)).listed,
                          {"a": [(f"1.{minor}.0+b", minor % 2 == 1) for minor in range(40)]})

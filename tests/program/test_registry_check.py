@@ -3,10 +3,12 @@ the command."""
 import os
 import random
 import unittest
+from urllib.parse import unquote_to_bytes
 
 from dev.long import fuzz_check
 from registryd_lines.judging import faults
 from registryd_lines.nearest import distance, nearest
+from tests.program.test_check_derivation import rows as rows_of
 from tests.support.program import TOP, publish
 
 LIMIT = 1_048_576
@@ -26,7 +28,7 @@ def rows():
             if row.startswith("  "):
                 found[-1][2].append(row[2:])
             elif row and not row.startswith("# "):
-                found.append((number, row, []))
+                found.append((number, unquote_to_bytes(row[2:]) if row.startswith("% ") else row.encode(), []))
     return found
 
 
@@ -36,35 +38,16 @@ class Lines(unittest.TestCase):
         self.assertGreater(len(held), 90)
         for place, line, wanted in held:
             with self.subTest(f"rows/checks.rows:{place}"):
-                self.assertEqual(in_words(line.encode()), wanted)
+                self.assertEqual(in_words(line), wanted)
 
     def test_the_program_answers_the_first_number_of_each_line_of_the_table(self):
         held = rows()
         wanted = [int(it[0].split("error ")[1].split(" ")[0]) if it else 0 for _, _, it in held]
-        self.assertEqual(fuzz_check.answered([line.encode() for _, line, _ in held]), wanted)
+        self.assertEqual(fuzz_check.answered([line for _, line, _ in held]), wanted)
 
-    def test_bytes(self):
+    def test_lines_of_no_bytes_and_of_too_many(self):
         for line, wanted in (
                 (b"", ["1: error 19 BadLine: the line is empty"]),
-                (b" \t\r", ["4: error 19 BadLine: the line is empty"]),
-                (b'{"op":"list"}\r', []),
-                (b'\xef\xbb\xbf{"op":"list"}', ["1: error 19 BadLine: there is a byte order mark here, the bytes EF BB "
-                                                "BF; leave it out"]),
-                (b'{"op":"list"\xc2\xa0}', ["13: error 19 BadLine: the character U+00A0 is no white space of JSON"]),
-                (b'{"op":\xe2\x80\x8b"list"}', ["7: error 19 BadLine: the character U+200B is no white space of JSON"]),
-                (b'{"op":"list\t"}', ["12: error 19 BadLine: the control character U+0009 must be written as an escape "
-                                      "in a text; did you mean \\t?"]),
-                (b'{"op":"list\0"}', ["12: error 19 BadLine: the control character U+0000 must be written as an escape "
-                                      "in a text; did you mean \\u0000?"]),
-                ('{"op":"yank","name":"é","version":"1'.encode() + b'\xe9"}',
-                 ["37: error 19 BadLine: byte 38 of the line, 0xE9, is not UTF-8: in Latin-1 it is \"\u00e9\""]),
-                (b'\xff\xfe{\0"\0', ["1: error 19 BadLine: byte 1 of the line, 0xFF, is not UTF-8: the file begins as "
-                                     "one in UTF-16"]),
-                (b'{"op":"\xed\xa0\x80"}', ["8: error 19 BadLine: byte 8 of the line, 0xED, is not UTF-8"]),
-                (b'{"op":"yank","name":"\x1b[31m","version":"1"}',
-                 ["22: error 19 BadLine: the control character U+001B must be written as an escape in a text; did you "
-                  "mean \\u001b?"]),
-                (b"[" * 128, ["128: error 19 BadLine: more than 127 brackets are open"]),
                 (b'{"op":"list"}' + b" " * (LIMIT - 13), []),
                 (b'{"op":"list"}' + b" " * (LIMIT - 12),
                  ["1: error 19 BadLine: the line has more than 1,048,576 bytes"])):
@@ -92,16 +75,16 @@ class Lines(unittest.TestCase):
         self.assertEqual(finds, [])
         self.assertEqual(set(counts), {0, *fuzz_check.COMPARED}, "a number was never answered")
         self.assertGreater(sum(counts.values()), 3000)
-        print(f"({sum(counts.values())} lines) ", end="")
 
     def test_what_was_meant_ends_the_fault(self):
         """Of each line of the table with one fault, what was meant instead of a text is taken by the program in its
         place."""
         lines, counted = [], 0
         for _, line, wanted in rows():
-            edit = faults(line.encode())[0].edit if len(wanted) == 1 else None
+            edit = faults(line)[0].edit if len(wanted) == 1 else None
             if edit and edit[2]:
-                lines.append((line[:edit[0]] + edit[2] + line[edit[1]:]).encode())
+                text = line.decode(errors="surrogateescape")
+                lines.append((text[:edit[0]] + edit[2] + text[edit[1]:]).encode(errors="surrogateescape"))
         for line, number in zip(lines, fuzz_check.answered(lines)):
             counted += number == 0
         # what is left are lines of which a part is missing, or has a second fault that is only seen behind the first
@@ -124,18 +107,10 @@ def plain_distance(one, other):
 
 class Nearest(unittest.TestCase):
     def test_edits(self):
-        for word, words, wanted in (
-                ("publsh", ["publish", "resolve"], "publish"), ("lsit", ["list"], "list"),
-                ("serde_jsn", ["serde", "serde_json"], "serde_json"),
-                ("serde-json", ["serde_json", "serde"], "serde_json"), ("Rand", ["rand"], "rand"),
-                ("RESOLVE", ["resolve"], "resolve"),
-                ("ab", ["ba", "cd"], "ba"), ("a", ["b"], "b"), ("ab", ["cd"], None),
-                ("tokio", ["toki", "tokyo", "tokoi"], "toki"),
-                ("abcdef", ["badcfe"], None), ("abcdef", ["bacdfe"], "bacdfe"), ("", ["a"], "a"), ("", ["ab"], None),
-                ("yank", [], None),
-                ("abcdefghijkl", ["abcdefghijxy"], "abcdefghijxy"), ("abcdefghijkl", ["abcdefghixyz"], None)):
-            with self.subTest(word, words=words):
-                self.assertEqual(nearest(word, words), wanted)
+        for row in rows_of("nearest.txt"):
+            word, words, wanted = row.split(" | ")
+            with self.subTest(row):
+                self.assertEqual(nearest(word, words.split()), None if wanted == "none" else wanted)
 
     def test_distances_against_a_plain_count(self):
         rng = random.Random(1)

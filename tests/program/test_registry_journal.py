@@ -3,6 +3,7 @@ ones, of which the program says which line is at fault, and whether a session go
 import os
 import random
 import tempfile
+from pathlib import Path
 from unittest import mock
 
 from dev.long import fuzz
@@ -13,60 +14,14 @@ from tests.support.made_lines import Maker
 from tests.support.program import SERVE, run
 from tests.support.registry_folder import Folder
 
-LEARN = ('{"derivation":[{"causes":['
-         '{"fact":"premise","name":"a","need":"^1.0.0","target":"b","versions":[0],"within":[0]},'
-         '{"fact":"premise","name":"b","need":"^1.0.0","target":"c","versions":[0],"within":[0]}],'
-         '"conclusion":[["a",true,[0]],["c",false,[0]]],"pivot":"b"}],"op":"learn"}')
-HEAD = "registry-journal 2"
-A = '{"name":"a","needs":[["b","^1.0.0"]],"op":"publish","version":"1.0.0"}'
-B = '{"name":"b","needs":[["c","^1.0.0"]],"op":"publish","version":"1.0.0"}'
-C = '{"name":"c","needs":[],"op":"publish","version":"1.0.0"}'
-C1 = '{"name":"c","needs":[],"op":"publish","version":"1.1.0"}'
-YANK = '{"name":"c","op":"yank","version":"1.0.0"}'
-
-
-def text(*lines):
-    return "".join(line + "\n" for line in lines)
-
-
-def whole(*items, head=HEAD):
-    return text(head, *items, f"end {len(items)}")
-
 
 class Verify(Folder):
     def read(self, said):
         path = self.path("some.journal")
-        with open(path, "wb") as out:
-            out.write(said if isinstance(said, bytes) else said.encode())
+        Path(path).write_bytes(said if isinstance(said, bytes) else said.encode())
         with mock.patch.dict(os.environ, REGISTRY_PROGRAM=program.PROGRAM):
             journal = read_journal(path)
             return journal, why(path, journal) if journal.state == FAULTY else None
-
-    def test_limits(self):
-        many = whole(*(f'{{"name":"p{number // 4096}","needs":[],"op":"publish","version":"{number}.0.0"}}'
-                       for number in range(49_153)))
-        learnt = [LEARN.replace('"versions":[0],"within":[0]}],',
-                                f'"versions":[0],"within":[0,{number}]}}],').replace("[0]]],", f"[0,{number}]]],")
-                  for number in range(1, 4098)]
-        for said, line, reason in ((many, 49_154, "49,152 commands are before it, which is the limit"),
-                                   (whole(A, B, C, *learnt), 4101, "4,096 are stored before it, which is the limit")):
-            with self.subTest(reason=reason):
-                journal, told = self.read(said)
-                self.assertEqual((journal.line, told, len(journal.items)), (line, reason, line - 2))
-
-    def test_what_is_whole_or_cut(self):
-        held = whole(A, B, C, LEARN, YANK)
-        for said, state, line, items, revision in (
-                (held, WHOLE, 0, 5, 4), (whole(), WHOLE, 0, 0, 0), (whole(A, C, head="registry-journal 1"), WHOLE, 0, 2,
-                                                                    2),
-                (held[:-1], CUT, 7, 5, 4), (held[:-6], CUT, 7, 5, 4), (held[:-7], CUT, 6, 4, 3),
-                (text(HEAD), CUT, 2, 0, 0), (text(HEAD, "")[:-1] + "end", CUT, 2, 0, 0),
-                (HEAD, CUT, 1, 0, 0), ("", CUT, 1, 0, 0), ("regis", CUT, 1, 0, 0),
-                (text(HEAD, A) + "\0\0", CUT, 3, 1, 1)):
-            with self.subTest(said[-20:]):
-                journal, told = self.read(said)
-                self.assertEqual((journal.state, journal.line, len(journal.items), journal.revision, told),
-                                 (state, line, items, revision, None))
 
     def test_damaged_journals(self):
         """The program says by `--load` which line is at fault, and by `--journal` whether a session goes on with the
@@ -76,8 +31,7 @@ class Verify(Folder):
             maker = Maker(random.Random(seed))
             _, lines = fuzz.first_lines(maker, 150)
             fuzz.run(lines, "--save", self.journal)
-            with open(self.journal, "rb") as file:
-                held = file.read()
+            held = Path(self.journal).read_bytes()
             for _ in range(25):
                 journal, told = self.read(fuzz.damaged(maker, held))
                 states[journal.state] += 1
@@ -85,21 +39,18 @@ class Verify(Folder):
                 self.assertEqual(told is not None, journal.state == FAULTY)
                 self.go_on(journal)
         self.assertTrue(all(states.values()), states)
-        print(f"({sum(states.values())} journals) ", end="")
 
     def go_on(self, journal):
         """A session begins with a copy of the file, unless it is at fault, and what it leaves is what was lawful."""
         path = self.path("copy.journal")
-        with open(path, "wb") as out:
-            out.write(journal.text)
+        Path(path).write_bytes(journal.text)
         done = run(["serve", "--workers", "1", "--journal", path])
         self.assertEqual(done.returncode, int(journal.state == FAULTY), done.stderr)
         if journal.state == FAULTY:
             self.assertRegex(done.stderr, rb"^registryd: journal .*\bline %d\b" % journal.line)
         else:
             self.assertEqual(done.stderr, b"")
-            with open(path, "rb") as file:
-                self.assertEqual(file.read(), journal_text(journal.items))
+            self.assertEqual(Path(path).read_bytes(), journal_text(journal.items))
 
 
 class Repair(Folder):
@@ -111,15 +62,12 @@ class Repair(Folder):
         maker = Maker(random.Random(7))
         _, lines = fuzz.first_lines(maker, 100)
         fuzz.run(lines, "--save", self.journal)
-        with open(self.journal, "rb") as file:
-            held = file.read()
+        held = Path(self.journal).read_bytes()
         for number in range(20):
             path, said = self.path(f"{number}.journal"), fuzz.damaged(maker, held)
-            with open(path, "wb") as out:
-                out.write(said)
+            Path(path).write_bytes(said)
             if self.repair(path)[0] == 0 and os.path.exists(path + ".repaired"):
-                with open(path + ".repaired", "rb") as file:
-                    kept = file.read()
+                kept = Path(path + ".repaired").read_bytes()
                 *items, end = kept.split(b"\n")[1:-1]
                 self.assertEqual((loaded(kept), end), (0, b"end %d" % len(items)))
                 self.assertTrue(said.startswith(kept[:-len(end) - 1]) or said.split(b"\n")[0] not in kept)

@@ -8,6 +8,7 @@ import signal
 import subprocess
 
 from registry_cli.table import SUBCOMMANDS
+from tests.program.test_check_derivation import rows
 from tests.program.test_readme import page
 from tests.support import lines_schema
 from tests.support.program import PROGRAM, TOP, publish, yank
@@ -19,12 +20,6 @@ HOLES, _ = pigeons(3)
 LINES = [publish("app", "1.0.0", ["log ^1"]), publish("log", "1.0.0"), publish("log", "1.1.0"), publish("log", "2.0.0"),
          yank("log", "1.0.0"), *HOLES]
 MADE = {"needs": [["app", "*"]], "revision": 1, "selected": [["app", "1.0.0"], ["log", "1.0.0"], ["gone", "1.0.0"]]}
-
-
-def rows(name):
-    """The rows of a table of the folder of data."""
-    with open(os.path.join(DATA, name), encoding="utf-8") as table:
-        return [row.rstrip("\n") for row in table if not row.startswith("# ")]
 
 
 # each with its status, and what is printed: an answer, or an error's number or word

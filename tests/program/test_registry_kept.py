@@ -136,9 +136,8 @@ class Shelves(unittest.TestCase):
             "rewritten: crates needed by several requirements, all of which have to be met: 1 (first: a 1.0.0 needs b "
             "\"^1, <2\")"])
         with mock.patch.object(shelf, "MOST_VERSIONS", 2):
-            self.assertEqual([it.version
-                              for it in shelf.Shelf(self.index(a=[("1.0.0", []), ("3.0.0", []),
-                                                                  ("2.0.0", [])])).crate("a").releases],
+            self.assertEqual([it.version for it in shelf.Shelf(self.index(a=[("1.0.0", []), ("3.0.0", []),
+                                                                             ("2.0.0", [])])).crate("a").releases],
                              ["3.0.0", "2.0.0"])
 
     def test_the_newest_of_a_crate(self):

@@ -5,80 +5,23 @@ import json
 import os
 import re
 import unittest
+from pathlib import Path
 from unittest import mock
 
 from registry_cli.limits import MOST_LOCK_LINES
 from registry_cli.locks import Lock, Unread, changes, coloured, counted, lock_text, read_lock, renewed
-from tests.support.program import TOP, publish
-from tests.support.registry_folder import Folder
+from tests.support.program import TOP
 
 TABLE = os.path.join(TOP, "rows", "calls", "further.rows")
-# What is no lock list: where, and the lowest refusal, of the form, of names, of versions, of a name that comes twice.
-PAIRS = 'an array of pairs of a name and a version, as [["b","1.0.0"]]'
-UNREAD = [
-    ("{}", "1:1: error 19 BadLine: a lock list is " + PAIRS + ", not an object; did you mean []?"),
-    ("", "1:1: error 19 BadLine: a lock list is " + PAIRS),
-    ('[["A","1","x"]]', '1:2: error 19 BadLine: each item of a lock list is a pair of a name and a version, as '
-                        '["b","1.0.0"]'),
-    ('[["a","1.0.0"],\n  ["A",1]]', '2:3: error 19 BadLine: each item of a lock list is a pair of a name and a '
-                                    'version, as ["b","1.0.0"]'),
-    ("[]\n[]", "2:1: error 19 BadLine: there is something after the lock: each file has one lock"),
-    ("[],", "1:3: error 19 BadLine: files are not separated by commas; leave it out"),
-    ('[["a","1"],\n["A","1.0.0"]]', '2:3: error 1 BadName: the capital letter "A", byte 1 of the name "A", is not one '
-                                    'of a-z, 0-9, - and _; did you mean "a"?'),
-    ('[["a","1.0.0"],["a","1"]]',
-     '1:23: error 2 BadVersion: the version "1" has no minor number; did you mean "1.0.0"?'),
-    ('[["a","1.0.0"],\n["b","1.0.0"],\n["a","1.1.0"]]', '3:2: error 4 RepeatedDependency: a appears twice in "lock"'),
-    ("[]" + " " * 1_048_575, "1:1: error 19 BadLine: the file has more than 1,048,576 bytes"),
-    ('[["é","1.0.0"],\n ["b" "1.0.0"]]', "2:6: error 19 BadLine: a comma is missing"),
-]
-# The same of an object, which says what a lock was made of.
-BEHIND = ',\n "revision":1,"selected":[["a","1.0.0"]]}'
-UNMADE = [
-    ('{"needs":["a@^1"]' + BEHIND, '1:11: error 19 BadLine: each item of "needs" is a pair of a name and a '
-                                   'requirement, as ["b","^1"]; did you mean ["a", "^1"]?'),
-    ('{"needs":null' + BEHIND, '1:10: error 19 BadLine: "needs" is an array of pairs of a name and a requirement, as '
-                               '[["b","^1"]], not null'),
-    ('{"needs":[]' + BEHIND.replace("1,", "true,"), '2:13: error 19 BadLine: "revision" is a number in digits, not '
-                                                    'true or false'),
-    ('{"needs":[]' + BEHIND.replace("1,", "-1,"), '2:13: error 19 BadLine: "revision" is a whole number from 0 to '
-                                                  '4,294,967,295 in digits only, not -1'),
-    ('{"needs":[]' + BEHIND.replace("1,", '"12",'), '2:13: error 19 BadLine: "revision" is a number in digits, not a '
-                                                    'text; did you mean 12?'),
-    ('{"needs":[],\n "revision":1,"selected":{"a":"1.0.0"}}', '2:26: error 19 BadLine: "selected" is ' + PAIRS
-     + ', not an object; did you mean [["a", "1.0.0"]]?'),
-    ('{"needs":[],\n "revision":1,"selected":[["a"]]}', '2:27: error 19 BadLine: each item of "selected" is a pair of '
-                                                        'a name and a version, as ["b","1.0.0"]'),
-    ('{"needs":[],"selected":[]}', '1:26: error 19 BadLine: a lock file has no "revision", which it must have'),
-    ('{"needs":[],\n "revision":1}', '2:14: error 19 BadLine: a lock file has no "selected", which it must have'),
-    ('{"need":[],"revision":1,"selected":[]}', '1:2: error 19 BadLine: a lock file has no member "need"; did you mean '
-                                               '"needs"?'),
-    ('{"needs":[["A","*"],["b","q"]]' + BEHIND.replace("1.0.0", "1"),
-     '1:13: error 1 BadName: the capital letter "A", byte 1 of the name "A", is not one of a-z, 0-9, - and _; did you '
-     'mean "a"?'),
-    ('{"needs":[["b","q"]]' + BEHIND.replace("1.0.0", "1"), '2:34: error 2 BadVersion: the version "1" has no minor '
-                                                            'number; did you mean "1.0.0"?'),
-    ('{"needs":[["b",">=1 <2"]]' + BEHIND,
-     '1:21: error 3 BadRequirement: a comma is missing between two comparators of ">=1 <2"; did you mean ">=1, <2"?'),
-    ('{"needs":[["b","*"],["b","^1"]]' + BEHIND, '1:22: error 4 RepeatedDependency: b appears twice in "needs"'),
-    (json.dumps({"needs": [[f"a{it}", "*"] for it in range(65)], "revision": 1, "selected": []}),
-     "1:899: error 6 TooManyDependencies: 65 needs; the limit is 64"),
-    ('{"needs":[]' + BEHIND + "\n{}",
-     "3:1: error 19 BadLine: there is something after the lock: each file has one lock"),
-]
+DATA = Path(TOP, "tests", "support", "data")
+# What is no lock list, nor an object that says what a lock was made of: where, and the lowest refusal, of the form, of
+# names, of versions, of a name that comes twice.
+UNREAD = json.loads(DATA.joinpath("locks_unread.json").read_text(encoding="utf-8"))
+MANY_NEEDS = json.dumps({"needs": [[f"a{it}", "*"] for it in range(65)], "revision": 1, "selected": []})
+UNREAD += [("[]" + " " * 1_048_575, "1:1: error 19 BadLine: the file has more than 1,048,576 bytes"),
+           (MANY_NEEDS, "1:899: error 6 TooManyDependencies: 65 needs; the limit is 64")]
 # two locks, and what changed
-CHANGED = [
-    ([], [], []),
-    (["a 1.0.0"], ["a 1.0.0"], []),
-    ([], ["b 1.0.0", "a 2.0.0"], ["+ a 2.0.0", "+ b 1.0.0"]),
-    (["b 1.0.0", "a 2.0.0"], ["b 1.0.0"], ["- a 2.0.0"]),
-    (["a 1.2.0", "b 0.3.1", "c 1.0.0", "d 2.0.0", "e 1.0.0+x", "f 1.0.0-rc.1", "g 0.0.3", "h 1.9.0", "i 1.0.0"],
-     ["a 1.10.0", "b 0.4.0", "c 2.0.0", "d 1.9.9", "e 1.0.0+y", "f 1.0.0", "g 0.0.4", "h 1.9.0-a", "j 1.0.0"],
-     ["~ a 1.2.0 -> 1.10.0", "~ b 0.3.1 -> 0.4.0 (beyond ^0.3.1)", "~ c 1.0.0 -> 2.0.0 (beyond ^1.0.0)",
-      "~ d 2.0.0 -> 1.9.9 (older)",
-      "~ e 1.0.0+x -> 1.0.0+y (of equal precedence)", "~ f 1.0.0-rc.1 -> 1.0.0", "~ g 0.0.3 -> 0.0.4 (beyond ^0.0.3)",
-      "~ h 1.9.0 -> 1.9.0-a (older)", "- i 1.0.0", "+ j 1.0.0"]),
-]
+CHANGED = json.loads(DATA.joinpath("locks_changed.json").read_text(encoding="ascii"))
 
 
 def rows(call):
@@ -111,7 +54,7 @@ class Lists(unittest.TestCase):
         self.assertRegex(str(told.exception), rf"\Ax.lock:{said}", text[:100])
 
     def test_what_is_refused(self):
-        for text, said in (*UNREAD, *UNMADE):
+        for text, said in UNREAD:
             self.refused(text.encode(), re.escape(said) + r"\Z")
 
     def test_what_else_is_refused(self):
@@ -170,18 +113,3 @@ class Lists(unittest.TestCase):
                           "0 added, 0 removed, 0 changed"])
         styled = mock.Mock(style=lambda text, name: f"{name} {text[0]}")
         self.assertEqual(coloured(lines[-3:], styled), ["yellow ~", "red -", "green +"])
-
-
-class Kept(Folder):
-    OLD = [publish("app", "1.0.0", ["log ^1"]), publish("log", "1.0.0"), publish("log", "2.0.0")]
-
-    def test_a_write_that_fails_leaves_the_file(self):
-        self.hold(*self.OLD)
-        path = self.path("app.lock", "[]\n")
-        for call in ("os.fsync", "os.replace", "os.fchmod", "tempfile.mkstemp"):
-            with mock.patch(call, side_effect=OSError(28, "No space left on device")):
-                self.assertEqual(self.registry("resolve", "app", "--write", path),
-                                 (3, "app 1.0.0\nlog 1.0.0\n", "registry: app.lock is not written: No space left on "
-                                                               "device\n"))
-            self.assertEqual((self.text("app.lock"), sorted(os.listdir(self.folder))),
-                             ("[]\n", ["app.lock", "registry.journal"]), call)

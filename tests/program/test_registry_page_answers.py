@@ -17,8 +17,7 @@ LINES = [publish("log", "1.0.0"), publish("log", "1.10.0+b"), publish("log", "1.
          publish("logger", "0.1.0"), publish("my-log", "0.1.0"), publish("old", "1.0.0"), yank("old", "1.0.0")]
 PACKAGES = {"app": [("1.0.0", False)], "log": [("1.0.0", False), ("1.10.0+b", False), ("1.9.0", True),
                                                ("2.0.0-rc.1", False)], "logger": [("0.1.0", False)],
-            "my-log": [("0.1.0", False)],
-            "old": [("1.0.0", True)]}
+            "my-log": [("0.1.0", False)], "old": [("1.0.0", True)]}
 
 
 class Answers(unittest.TestCase):
@@ -50,9 +49,8 @@ class Answers(unittest.TestCase):
         names = ["app", "log", "logger", "my-log", "old", "zlib"]
         for text, wanted in (([], ("", 6, None, names)), (["", "x"], ("", 6, None, names)),
                              ([" LOG "], ("log", 3, None, ["log", "logger", "my-log"])),
-                             (["logg"], ("logg", 1, None, ["logger"])),
-                             (["-"], ("-", 1, None, ["my-log"])), (["zlbi"], ("zlbi", 0, "zlib", [])),
-                             (["nothing"], ("nothing", 0, None, []))):
+                             (["logg"], ("logg", 1, None, ["logger"])), (["-"], ("-", 1, None, ["my-log"])),
+                             (["zlbi"], ("zlbi", 0, "zlib", [])), (["nothing"], ("nothing", 0, None, []))):
             self.assertEqual(self.search(*text), wanted)
         with mock.patch.object(answers, "MOST_FOUND", 2):
             self.assertEqual(self.search("log"), ("log", 3, None, ["log", "logger"]))

@@ -3,21 +3,10 @@ import json
 
 from bench import workloads
 from registry_cli import drawing
-from registry_cli.derivation import Derivation
-from registry_cli.packages import registry_of
-from tests.program.test_registry_why import SVG, drawn
-from tests.support.program import serve
+from tests.program.test_registry_why import SVG, drawn, refusal
 from tests.support.registry_folder import Folder
 
 FEW = 65  # boxes that a folded picture has at most
-
-
-def refusal(storeys):
-    """The derivation of a refusal by the program, of a registry that it takes many lines for."""
-    lines, (request,) = workloads.tower(storeys)
-    reply = json.loads(serve([*lines, json.dumps({**json.loads(request), "explain": True})])[-1])
-    commands = [json.loads(it) for it in lines]
-    return Derivation(registry_of(commands, {it["name"] for it in commands}), json.loads(request), reply["derivation"])
 
 
 def hidden_below(step, shown):

@@ -61,8 +61,7 @@ class Asked(unittest.TestCase):
     def test_what_a_question_reaches(self):
         commands = values(publish("a", "1.0.0", ["b ^1"]), publish("d", "1.0.0", ["a *"]),
                           publish("b", "1.0.0", ["c *", "a *"]), yank("b", "1.0.0"), publish("c", "1.0.0"),
-                          publish("a", "2.0.0", ["e *"]),
-                          publish("e", "1.0.0"))
+                          publish("a", "2.0.0", ["e *"]), publish("e", "1.0.0"))
         for names, wanted in ((["a"], "abbcae"), (["c"], "c"), (["d"], "adbbcae"), (["none"], ""), (["b"], "abbcae"),
                               (["e", "c"], "ce")):
             self.assertEqual("".join(it["name"] for it in reached(commands, names)), wanted, names)
@@ -189,5 +188,6 @@ class Walks(unittest.TestCase):
                                            ("1.0.0", "1.0.0+b", None, False), ("1.0.0", "2.0.0", "1.0.0+b", True),
                                            ("2.0.0", "1.0.0", "1.0.0", False),
                                            ("2.0.0", "1.0.0", "3.0.0", True), ("1.0.0", "1.0.0", "1.0.0", False),
-                                           ("1.10.0", "1.9.0", None, True), ("1.0.0-rc.1", "1.0.0", None, False)):
+                                           ("1.10.0", "1.9.0", None, True), ("1.0.0-rc.1", "1.0.0", None, False),
+                                           ("1.0.0-b", "1.0.0-a", None, True), ("1.0.0", "1.0.0-a", None, True)):
             self.assertIs(is_preferred(one, other, locked), wanted, (one, other, locked))

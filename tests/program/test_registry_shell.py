@@ -1,4 +1,4 @@
-"""`registry shell`: lines from a pipe, and lines, keys and completion at a terminal."""
+"""`registry shell` at a terminal: lines, keys and completion. A transcript has lines from a pipe."""
 import fcntl
 import os
 import pty
@@ -7,7 +7,6 @@ import select
 import signal
 import stat
 import subprocess
-import tempfile
 import termios
 import time
 from unittest import mock
@@ -16,21 +15,12 @@ from registry_cli.failures import Refused
 from registry_cli.shell import Standing
 from tests.support.preloaded import built
 from tests.support.processes import is_idle
-from tests.support.program import PROGRAM, TOP, publish, yank
-from tests.support.registry_folder import Folder  # it finds the package
+from tests.support.program import PROGRAM, TOP, publish
+from tests.support.registry_folder import Folder, pigeons
 
 COMMAND = os.path.join(TOP, "registry")
 ESCAPES = re.compile(r"\x1b\[[0-9;?]*[A-Za-z]|\x07")
 SECONDS = 60  # until what is waited for has failed
-
-
-def pigeons(count):
-    """Publications of so many pigeons that each need a hole of their own among one too few: a search that takes for
-    ever."""
-    holes = [publish(f"hole{hole}", f"{pigeon}.0.0") for hole in range(count - 1) for pigeon in range(1, count + 1)]
-    birds = [publish(f"pigeon{pigeon}", f"{hole + 1}.0.0", [f"hole{hole} ={pigeon}.0.0"])
-             for pigeon in range(1, count + 1) for hole in range(count - 1)]
-    return holes + birds, [f"pigeon{pigeon}" for pigeon in range(1, count + 1)]
 
 
 class Terminal:
@@ -40,11 +30,9 @@ class Terminal:
         self.ours, theirs = pty.openpty()
         kept = {name: it for name, it in os.environ.items() if not name.startswith("REGISTRY_")}
         told = {**kept, "REGISTRY_PROGRAM": PROGRAM, "TERM": "xterm", "HOME": folder,
-                "XDG_STATE_HOME": os.path.join(folder, "state"),
-                "INPUTRC": os.devnull, "NO_COLOR": "1", **environment}
+                "XDG_STATE_HOME": os.path.join(folder, "state"), "INPUTRC": os.devnull, "NO_COLOR": "1", **environment}
         self.running = subprocess.Popen([COMMAND, "shell", *words], cwd=folder, stdin=theirs, stdout=theirs,
-                                        stderr=theirs, env=told,
-                                        start_new_session=True, preexec_fn=take_terminal)
+                                        stderr=theirs, env=told, start_new_session=True, preexec_fn=take_terminal)
         os.close(theirs)
         self.shown, self.seen = "", 0
 
@@ -116,9 +104,9 @@ class Typed(Folder):
     def test_lines_over_one_session(self):
         with self.terminal() as shell:
             self.assertEqual(shell.child(), [])
-            self.assertEqual(shell.answer("list"), "registry: registry.journal: there is no such journal: `registry "
-                                                   "publish` or `registry import` begins one, "
-                                                   "and --journal FILE names another\n")
+            self.assertEqual(shell.answer("list"),
+                             "registry: registry.journal: there is no such journal: `registry publish` or `registry "
+                             "import` begins one, and --journal FILE names another\n")
             self.assertEqual(shell.answer("publish log 1.0.0"), "published log 1.0.0 (revision 1)\n")
             child = shell.child()
             self.assertEqual(len(child), 1)
@@ -131,8 +119,7 @@ class Typed(Folder):
             self.assertEqual(shell.answer(""), "")
             self.assertEqual(shell.child(), child)
             said = subprocess.run([COMMAND, "publish", "other", "1.0.0", "--wait", "0"], cwd=self.folder,
-                                  env={**os.environ, "REGISTRY_PROGRAM": PROGRAM},
-                                  stderr=subprocess.PIPE)
+                                  env={**os.environ, "REGISTRY_PROGRAM": PROGRAM}, stderr=subprocess.PIPE)
             self.assertEqual((said.returncode, said.stderr.decode()), (
                 3, f'registry: registry.journal is in use by another session (process {shell.running.pid}, "registry '
                    'shell"): try again once that has ended\n'))
@@ -157,12 +144,11 @@ class Typed(Folder):
         os.mkdir(self.path("folder"))
         self.path("my lock.lock", "[]")
         for typed, shown in (("pub\t", "publish "), ("jour\tver\t", "journal verify "), ("show z\t", "show zlib "),
-                             ("registry show z\t", "registry show zlib "),
-                             ("yank log 1.2\t", "yank log 1.2.0 "), ("yank zlib \t", "yank zlib 1.0.0 "),
+                             ("registry show z\t", "registry show zlib "), ("yank log 1.2\t", "yank log 1.2.0 "),
+                             ("yank zlib \t", "yank zlib 1.0.0 "), ("ex\t", "exit "), ("check fol\t", "check folder/"),
                              ("resolve zlib --bud\t", "resolve zlib --budget "),
                              ("resolve zlib@=1\t", "resolve zlib@=1.0.0 "),
-                             ("resolve zlib@^\t", "resolve zlib@^1.0.0 "), ("ex\t", "exit "),
-                             ("check fol\t", "check folder/"), ("show none\t", "show none")):
+                             ("resolve zlib@^\t", "resolve zlib@^1.0.0 "), ("show none\t", "show none")):
             with self.subTest(typed), self.terminal() as shell:
                 shell.type(typed + "|")
                 self.assertEqual(shell.read("|").rpartition("\n")[2].strip("\x07"), shown)
@@ -258,48 +244,7 @@ class Typed(Folder):
             self.assertEqual(shell.running.wait(timeout=SECONDS), 143)
 
 
-class Piped(Folder):
-    def shell(self, *lines):
-        return self.registry("shell", given="".join(line + "\n" for line in lines))
-
-    def test_lines(self):
-        status, said, noted = self.shell("publish log 1.0.0", "", "# a remark",
-                                         'publish app 1.0.0 "log@>=1, <2" # another', "  list  ", "resolve app --json")
-        self.assertEqual((status, noted), (0, ""))
-        self.assertEqual(said, "published log 1.0.0 (revision 1)\npublished app 1.0.0 (revision 2)\napp  1.0.0  1 "
-                               "version\nlog  1.0.0  1 version\n"
-                               '{"revision":2,"selected":[["app","1.0.0"],["log","1.0.0"]]}\n')
-        self.assertEqual(self.text("registry.journal").splitlines()[-1], "end 2")
-
-    def test_the_status_is_that_of_the_last_command(self):
-        self.hold(publish("log", "1.0.0"), yank("log", "1.0.0"))
-        for lines, status in (([], 0), (["# nothing", ""], 0), (["list"], 0), (["yank log 1.0.0"], 1),
-                              (["yank log 1.0.0", "list"], 0), (["lits"], 2), (["show 'log"], 2),
-                              (["check none.lines"], 3), (["yank log 1.0.0", "exit", "list"], 1), (["lits", "quit"], 2),
-                              (["shell"], 2), (["help yank"], 0),
-                              (["resolve log"], 1), (["list --depth"], 2)):
-            with self.subTest(lines):
-                self.assertEqual(self.shell(*lines)[0], status)
-
-    def test_what_is_printed_before_a_refusal_comes_first(self):
-        with tempfile.TemporaryFile() as out:
-            subprocess.run([COMMAND, "shell", "--journal", self.journal],
-                           input=b"publish a 1.0.0\nyank a 2.0.0\nlist\n", stdout=out, stderr=out,
-                           env={**os.environ, "REGISTRY_PROGRAM": PROGRAM}, timeout=SECONDS)
-            out.seek(0)
-            self.assertEqual(out.read().decode(), "published a 1.0.0 (revision 1)\nregistry: a 2.0.0 is not published; "
-                                                  "there is 1.0.0\na  1.0.0  1 version\n")
-
-    def test_many_commands_ask_one_session(self):
-        """The program is begun once: a program in its place counts."""
-        count = self.path("count")
-        wrapper = self.path("wrapper", f'#!/bin/sh\necho >> "{count}"\nexec "{PROGRAM}" "$@"\n')
-        os.chmod(wrapper, 0o755)
-        lines = [*(f"publish p{number} 1.0.0" for number in range(20)),
-                 "list", "show p1", "resolve p2", "search p", "tree p3", "why p4"]
-        status, _, noted = self.registry("shell", given="\n".join(lines), REGISTRY_PROGRAM=wrapper)
-        self.assertEqual((status, noted, len(self.text(os.path.basename(count)))), (0, "", 1))
-
+class Lent(Folder):
     def test_replies_that_a_command_left(self):
         """What a command that is refused did not read is not taken for what the next one asks."""
         self.hold(publish("log", "1.0.0"))
@@ -313,16 +258,3 @@ class Piped(Folder):
                 self.assertEqual(session.ask({"op": "yank", "name": "log", "version": "1.0.0"}),
                                  [{"ok": True, "revision": 2}])
                 self.assertEqual(len(session.commands()), 2)
-
-    def test_each_subcommand_that_reads_or_writes(self):
-        """What each prints in a shell is what it prints alone."""
-        self.hold(publish("log", "1.0.0"), publish("log", "1.1.0"), publish("app", "1.0.0", ["log ^1"]))
-        lock = self.path("app.lock", '[["app","1.0.0"],["log","1.0.0"]]')
-        lines = ["list", "show log", "search lo", "resolve app", "resolve app log@^2", "tree app", "why app log@^2",
-                 f"outdated app --lock {lock}",
-                 f"upgrade --need app --lock {lock}", f"diff {lock} {lock}", "resolve nobody", "publish app 1.0.0",
-                 "yank log 3.0.0"]
-        alone = [self.registry(*line.split()) for line in lines]
-        status, said, noted = self.shell(*lines)
-        self.assertEqual((status, said, noted), (alone[-1][0], "".join(it[1] for it in alone),
-                                                 "".join(it[2] for it in alone)))

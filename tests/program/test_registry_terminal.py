@@ -9,6 +9,7 @@ import socket
 import sys
 import threading
 import time
+from pathlib import Path
 from unittest import mock
 
 from registry_cli import bar, cases, output, searching
@@ -23,17 +24,7 @@ LIMIT = "{} more than {} in all: --seconds N allows more (0: without a limit)"
 LINES = [publish("log", "1.0.0"), publish("log", "1.2.0"), publish("app", "1.0.0", ["log ^1"]),
          publish("web", "1.0.0", ["log >=2, <3"])]
 # lines, the columns of a terminal, and the rows that are shown
-WRAPPED = [
-    ("short", 20, "short"), ("a line that is not known to be too long", 0, "a line that is not known to be too long"),
-    ("it has twenty letters", 21, "it has twenty letters"),
-    ("it has twenty letters and some", 21, "it has twenty letters\nand some"),
-    ("  Because a needs b and c, it fails.", 24, "  Because a needs b and\n  c, it fails."),
-    ("  (12) Because a needs b and c, it fails.", 29, "  (12) Because a needs b and\n       c, it fails."),
-    ("registry: it is not published, and more", 32, "registry: it is not published,\n          and more"),
-    ("a-word-that-is-longer-than-a-row and more words", 20, "a-word-that-is-longer-than-a-row\nand more words"),
-    ("          too narrow to be indented so far", 29, "          too narrow to be indented so far"),
-    ("name  1.0.0  two  versions", 20, "name  1.0.0  two\nversions"),
-]
+WRAPPED = json.loads(Path(TOP, "tests", "support", "data", "wrapped.json").read_text(encoding="ascii"))
 
 
 def without_end(*_):
@@ -50,10 +41,10 @@ def red(text):
 
 
 class Shown(Folder):
-    def shown(self, *words, typed=b"", columns=0, lines=0, **environment):
+    def shown(self, *words, **more):
         """The status of a command at a terminal, and what that shows in the end: a line that says how long something
         takes is taken away."""
-        status, said = self.seen(*words, typed=typed, columns=columns, lines=lines, **environment)
+        status, said = self.seen(*words, **more)
         return status, re.sub(r"\r.*\r\x1b\[K", "", said)
 
     def seen(self, *words, typed=b"", columns=0, lines=0, **environment):
@@ -82,26 +73,19 @@ class Shown(Folder):
                          "web *: refused at revision 4\n"
                          '  Because every version of web depends on log ">=2, <3" and\n'
                          '  no version of log matches ">=2, <3", web is forbidden.\n'
-                         "  And because the request depends on web *, resolving\n"
-                         "  failed.\n"
-                         "  No version of log matches >=2, <3; there are 1.2.0 and\n"
-                         "  1.0.0.\n")
+                         "  And because the request depends on web *, resolving\n" "  failed.\n"
+                         "  No version of log matches >=2, <3; there are 1.2.0 and\n" "  1.0.0.\n")
 
     def test_where_there_is_colour(self):
         self.hold(*LINES)
-        for words, environment, coloured in (([], {}, True), (["--color", "auto"], {"NO_COLOR": "1"}, False),
+        for words, environment, coloured in (([], {"NO_COLOR": ""}, True), (["--color=auto"], {"NO_COLOR": "1"}, False),
                                              ([], {"TERM": "dumb"}, False), (["--color", "never"], {}, False),
                                              (["--color=always"], {"NO_COLOR": "1"}, True)):
-            self.assertEqual(self.shown("list", *words, **environment)[1].startswith("\x1b[1mapp"), coloured,
-                             (words, environment))
-            self.assertEqual(red("registry:") in self.shown("yank", "log", "3.0.0", *words, **environment)[1], coloured,
-                             (words, environment))
-        for words, coloured in (([], False), (["--color", "auto"], False), (["--color", "always"], True),
-                                (["--color", "always", "--json"], False)):
-            self.assertEqual("\x1b[1m" in self.registry("list", *words)[1], coloured, words)
-        status, _, said = self.registry("list", "--color", "blue")
-        self.assertEqual((status, said), (2, "registry: argument --color: invalid choice: 'blue' (choose from 'auto', "
-                                             "'always', 'never'): see `registry list --help`\n"))
+            with self.subTest(words=words, environment=environment):
+                listed = self.shown("list", *words, **environment)[1]
+                refused = self.shown("yank", "log", "3.0.0", *words, **environment)[1]
+                self.assertEqual((listed.startswith("\x1b[1mapp"), red("registry:") in refused), (coloured, coloured))
+        self.assertNotIn("\x1b", self.shown("list", "--json")[1])
 
     def test_a_question(self):
         self.hold(publish("app", "1.0.0", ["log ^1"]), publish("log", "1.2.0"), publish("log", "1.3.0"))
@@ -117,46 +101,6 @@ class Shown(Folder):
             # what changed stands above the question, in colour
             self.assertIn("\x1b[33m~ log 1.2.0 -> 1.3.0\x1b[0m", shown.partition("write this")[0])
             self.assertEqual(self.text("registry.lock"), old.replace("1.2.0", "1.3.0") if status == 0 else old)
-
-    def test_names_that_are_words_of_sentences(self):
-        self.hold(publish("version", "1.0.0", ["the *"]))
-        said = self.registry("resolve", "version", "--color", "always")[2]
-        self.assertIn(f"Because every version of version depends on {red('the *')} and "
-                      f"{red('no version of the is published')}, version is forbidden.", said)
-
-    def test_quiet_and_verbose(self):
-        self.hold(*LINES)
-        lock = self.path("app.lock")
-        self.assertEqual(self.registry("publish", "x", "1.0.0", "y", "-q"), (0, "published x 1.0.0 (revision 5)\n", ""))
-        self.assertEqual(self.registry("resolve", "app", "--write", lock, "--quiet"), (0, "app 1.0.0\nlog 1.2.0\n", ""))
-        self.assertEqual(self.registry("-q", "yank", "app", "2.0.0")[::2],
-                         (1, "registry: app 2.0.0 is not published; there is 1.0.0\n"))
-        self.assertIn("resolving failed", self.registry("-q", "resolve", "web")[2])
-        for words in (["-v"], ["--verbose"]):
-            status, said, noted = self.registry(*words, "resolve", "app")
-            self.assertEqual((status, said), (0, "app 1.0.0\nlog 1.2.0\n"))
-            asking = re.escape('{"op":"resolve","needs":[["app","*"]],"lock":[],"explain":true}')
-            self.assertRegex(noted, rf"\Aregistry: asking {asking}\nregistry: answered in [0-9]+\.[0-9]{{3}} s\n\Z")
-        long = self.registry("-v", "resolve",
-                             *(f"a-name-that-is-long-{number}" for number in range(20)))[2].splitlines()[0]
-        self.assertTrue(long.endswith("..") and len(long) == len("registry: asking ") + 202, long)
-
-    def test_options_of_a_shell_are_those_of_its_lines(self):
-        self.hold(*LINES)
-        given = "list --color never\nlist\npublish x 1.0.0 y\npublish z 1.0.0 y --json\n"
-        _, said, noted = self.registry("shell", "-q", "--color", "always", given=given)
-        self.assertEqual((said.splitlines()[0], said.splitlines()[3].startswith(b("app")), noted),
-                         ("app  1.0.0  1 version", True, ""))
-        self.assertEqual(self.registry("list")[1].splitlines()[0], "app  1.0.0  1 version")
-
-    def test_help_of_a_subcommand(self):
-        for words in (["resolve"], ["journal", "verify"]):
-            self.assertEqual(registry("help", *words), registry(*words, "--help"))
-        self.assertEqual(registry("help"), registry("--help"))
-        self.assertEqual(registry("help", "publsh"),
-                         (2, "", "registry: there is no subcommand publsh; did you mean publish? See `registry "
-                                 "--help`\n"))
-        self.assertEqual(self.registry("shell", given="help yank\n")[1], registry("yank", "--help")[1])
 
     # ---- long explanations
 
@@ -188,8 +132,7 @@ class Shown(Folder):
     def test_a_search_that_takes_long(self):
         lines, needs = pigeons(12)
         self.hold(*lines)
-        with open(self.journal, "rb") as file:
-            before = file.read()
+        before = Path(self.journal).read_bytes()
         told = "no answer was found in {}: --seconds N searches longer (0: without a limit)\n"
         status, said = self.seen("resolve", *needs, "--seconds", "2", NO_COLOR="1")
         self.assertEqual(status, 1)
@@ -200,8 +143,7 @@ class Shown(Folder):
                                                                 separators=(",", ":")) + "\n"), (["why"], "")):
             self.assertEqual(self.registry(*words, *needs, "--seconds", "1"), (1, error, f"registry: {told}"))
         self.assertEqual(self.registry("resolve", *needs, "--seconds", "0", "--budget", "100")[0], 1)
-        with open(self.journal, "rb") as file:
-            self.assertEqual(file.read(), before)
+        self.assertEqual(Path(self.journal).read_bytes(), before)
 
     def test_what_is_said_meanwhile(self):
         class Terminal(io.StringIO):
@@ -226,14 +168,14 @@ class Shown(Folder):
     def test_a_shell_goes_on(self):
         lines, needs = pigeons(12)
         self.hold(*lines)
-        status, said, noted = self.registry("shell", given=f"publish log 1.0.0\nresolve {' '.join(needs)} --seconds 1\n"
-                                                           "publish log 1.1.0\nresolve log\n")
-        self.assertEqual((status, said, noted.count("\n"), noted[:37]),
-                         (0, f"published log 1.0.0 (revision {len(lines) + 1})\npublished log 1.1.0 (revision "
-                             f"{len(lines) + 2})\nlog 1.1.0\n",
-                                                                      1, "registry: no answer was found in 1 se"))
+        given = f"publish log 1.0.0\nresolve {' '.join(needs)} --seconds 1\npublish log 1.1.0\nresolve log\n"
+        status, said, noted = self.registry("shell", given=given)
+        published = "".join(f"published log 1.{it}.0 (revision {len(lines) + it + 1})\n" for it in (0, 1))
+        self.assertEqual((status, said), (0, published + "log 1.1.0\n"))
+        self.assertRegex(noted, r"\Aregistry: no answer was found in 1 second: .*\n\Z")
 
-    def test_a_service_that_does_not_answer(self):
+    def over_service(self, seconds, replies):
+        """What `registry resolve` leaves over a service that answers these lines, and then nothing more."""
         path = self.path("socket")
         with socket.socket(socket.AF_UNIX) as listening:
             listening.bind(path)
@@ -241,15 +183,20 @@ class Shown(Folder):
 
             def serve():
                 with listening.accept()[0] as client, client.makefile("rb") as lines:
-                    for number, _ in enumerate(lines):
-                        if not number:
-                            client.sendall(b'{"revision":0,"selected":[]}\n')
+                    for reply in replies:
+                        lines.readline()
+                        client.sendall(reply)
+                    lines.read()
             serving = threading.Thread(target=serve)
             serving.start()
-            status, said, noted = registry("resolve", "a", "--connect", path, "--seconds", "1")
+            answer = registry("resolve", "a", "--connect", path, "--seconds", seconds)
             serving.join()
-        self.assertEqual((status, said, noted), (1, "", "registry: no answer was found in 1 second: --seconds N "
-                                                        "searches longer (0: without a limit)\n"))
+        return answer
+
+    def test_a_service_that_does_not_answer(self):
+        self.assertEqual(self.over_service("1", [b'{"revision":0,"selected":[]}\n']),
+                         (1, "", "registry: no answer was found in 1 second: --seconds N searches longer (0: without a "
+                                 "limit)\n"))
 
     # ---- explanations that take long
 
@@ -303,21 +250,7 @@ class Shown(Folder):
         self.assertLess(abs(time.monotonic() - second), PATIENCE)
 
     def test_a_service_that_does_not_tell_its_journal(self):
-        path = self.path("socket")
-        with socket.socket(socket.AF_UNIX) as listening:
-            listening.bind(path)
-            listening.listen()
-
-            def serve():
-                with listening.accept()[0] as client, client.makefile("rb") as lines:
-                    for reply in (b'{"revision":0,"selected":[]}\n', b'{"refused":true,"revision":0}\n'):
-                        lines.readline()
-                        client.sendall(reply)
-                    lines.read()
-            serving = threading.Thread(target=serve)
-            serving.start()
-            self.hurry()
-            answer = registry("resolve", "a", "--connect", path, "--seconds", "100")
-            serving.join()
+        self.hurry()
         told = LIMIT.format("there is no selection; to say why takes", "100 seconds")
-        self.assertEqual(answer, (1, "", f"registry: {told}\n"))
+        replies = [b'{"revision":0,"selected":[]}\n', b'{"refused":true,"revision":0}\n']
+        self.assertEqual(self.over_service("100", replies), (1, "", f"registry: {told}\n"))

@@ -8,7 +8,6 @@ import math
 import os
 import random
 import re
-import tempfile
 import unittest
 from pathlib import Path
 from xml.etree import ElementTree
@@ -17,37 +16,19 @@ from bench import hostile_lines, workloads
 from registry_cli import check_derivation, drawing
 from registry_cli.derivation import Derivation, Telling, Versions
 from tests.program.test_check_derivation import REFUSALS, WORKED, tangle, worked
+from tests.program.test_check_derivation import rows as rows_of
 from tests.program.test_readme import answers, page
 from tests.support import generated_lines
-from tests.support.called import registry
-from tests.support.program import TOP, publish, resolve, run, serve, yank
+from tests.support.program import TOP, publish, resolve, serve, yank
 from tests.support.read_english import Reader, Unread
 from tests.support.refuter import Known, Refuter
+from tests.support.registry_folder import Folder
 
 
 RANGES = [publish("a", it, ["b ^2"]) for it in ("1.0.0", "2.0.0", "1.2.0", "1.1.0", "1.5.0+x", "2.0.0-rc.1")]
 # what is published, what is asked, the derivation, and its English
 TOLD = {name: (*worked(name)[:2], it["derivation"], it["english"]) for name, it in REFUSALS.items() if "english" in it}
 BRANCHING = TOLD["branching"][:3]
-# sets of ordinals of RANGES, by precedence 0, 3, 2, 4, 5, 1, in words
-SETS = """
-0 | a 1.0.0
-0 3 | a <1.2.0
-0 3 2 | a <1.5.0+x
-3 2 | a >=1.1.0 <1.5.0+x
-4 | a 1.5.0+x
-5 1 | a >=2.0.0-rc.1
-4 5 1 | a >=1.5.0+x
-0 3 4 5 1 | every version of a but 1.2.0
-0 2 4 1 | every version of a but 1.1.0 and 2.0.0-rc.1
-0 1 | a 1.0.0 or 2.0.0
-0 2 5 | a 1.0.0, 1.2.0 or 2.0.0-rc.1
-0 3 5 1 | a <1.2.0 or >=2.0.0-rc.1
-0 1 2 3 4 5 | every version of a
-0 9 | a 1.0.0
-9 | a #9
-6 8 | a #6 or #8
-"""
 
 
 def registry_of(commands):
@@ -74,15 +55,14 @@ class Worked(unittest.TestCase):
     def test_the_program_s_own(self):
         # the request is met, or its refusal is told: what the program derives may be another derivation
         for name, (lines, request, _) in {**WORKED, "branching": BRANCHING}.items():
-            reply = json.loads(serve([*lines, json.dumps({**json.loads(request), "explain": True})])[-1])
-            told = Telling(Derivation(registry_of(map(json.loads, lines)), asked(request), reply["derivation"]))
+            told = Telling(derived(lines, request))
             if name == "branching":
                 self.assertEqual(told.lines(), TOLD[name][3])
             Reader(registry_of(map(json.loads, lines)), asked(request)).read(told.sentences)
 
     def test_sets_of_versions(self):
         versions = Versions(registry_of(map(json.loads, RANGES)))
-        for row in SETS.strip().split("\n"):
+        for row in rows_of("sets_of_versions.txt"):
             ordinals, words = row.split(" | ")
             self.assertEqual(versions.every("a", frozenset(map(int, ordinals.split()))), words)
         self.assertEqual(versions.some("a", frozenset(range(6))), "a")
@@ -93,15 +73,8 @@ class Worked(unittest.TestCase):
         lines, request, rows, _ = TOLD["branching"]
         registry = registry_of(map(json.loads, lines))
         good = Telling(Derivation(registry, asked(request), rows)).sentences
-        changes = [("^2.0.0, foo 1.0.0 requires", "^1.0.0, foo 1.0.0 requires"),
-                   ("foo 1.0.0 requires b ^2.0.0", "foo 1.0.0 requires b ^1.0.0"),
-                   ("foo 1.0.0 requires b", "every version of foo requires b"), ("(1), foo", "(2), foo"),
-                   ("And because", "Because"),
-                   ("is forbidden (1), foo is forbidden", "is forbidden (1), foo 1.0.0 is incompatible"),
-                   ("the request depends", "foo depends"),
-                   ("foo 1.0.0 is forbidden (1)", "foo 1.1.0 is forbidden (1)"),
-                   ("^1.0.0, resolving failed", "^1.0.0, b is forbidden and so on")]
-        for old, new in changes:
+        for row in rows_of("wrong_english.txt"):
+            old, new = row.split(" -> ")
             changed, count = [], 0
             for number, said in good:
                 count += old in said
@@ -231,15 +204,21 @@ def upright(top):
                         == right)
 
 
-class Pictures(unittest.TestCase):
-    def refusal(self, storeys):
-        """The derivation of a refusal by the program, of a registry that it takes many lines for."""
-        lines, requests = workloads.tower(storeys)
-        reply = json.loads(serve([*lines, json.dumps({**json.loads(requests[0]), "explain": True})])[-1])
-        return Derivation(registry_of(map(json.loads, lines)), json.loads(requests[0]), reply["derivation"])
+def derived(lines, request):
+    """The derivation of a refusal by the program."""
+    reply = json.loads(serve([*lines, json.dumps({**json.loads(request), "explain": True})])[-1])
+    return Derivation(registry_of(map(json.loads, lines)), json.loads(request), reply["derivation"])
 
+
+def refusal(storeys):
+    """One of a registry that it takes many lines for."""
+    lines, (request,) = workloads.tower(storeys)
+    return derived(lines, request)
+
+
+class Pictures(unittest.TestCase):
     def test_derivations(self):
-        for derivation in (self.refusal(3), self.refusal(25)):
+        for derivation in (refusal(3), refusal(25)):
             steps = {it.number: it for it in derivation.steps}
             top, texts, (wide, high) = drawn(drawing.draw_derivation(derivation, "what was asked", most=math.inf))
             boxes = [[float(it.get(side)) for side in ("x", "y", "width", "height")] for it in top.iter(SVG + "rect")
@@ -269,9 +248,7 @@ class Pictures(unittest.TestCase):
     def test_reasons_of_several_rows(self):
         one, other = "a" * 60, "b" * 60
         lines, request = [publish(one, "1.0.0", [f"{other} ^2"]), publish(other, "1.0.0")], resolve(f"{one} ^1")
-        reply = json.loads(serve([*lines, json.dumps({**json.loads(request), "explain": True})])[-1])
-        top, texts, _ = drawn(drawing.draw_derivation(Derivation(registry_of(map(json.loads, lines)),
-                                                                 json.loads(request), reply["derivation"]), "asked"))
+        top, texts, _ = drawn(drawing.draw_derivation(derived(lines, request), "asked"))
         box = next(it for it in top.iter(SVG + "rect") if it.get("rx"))
         rows = [(y, said) for said, _, y in texts if other in said]
         self.assertGreater(len({y for y, _ in rows}), 1)
@@ -317,8 +294,7 @@ class Pictures(unittest.TestCase):
 
     def test_packages_that_need_each_other(self):
         lines = [publish("a", "1.0.0", ["b *"]), publish("b", "1.0.0", ["c *", "d *"]),
-                 publish("c", "1.0.0", ["a *", "b *"]), publish("d", "1.0.0", ["d-2 *"]),
-                 publish("d-2", "1.0.0")]
+                 publish("c", "1.0.0", ["a *", "b *"]), publish("d", "1.0.0", ["d-2 *"]), publish("d-2", "1.0.0")]
         self.assertIn("A red line leads back up, where packages need each other.",
                       self.dots(lines, resolve("a *", "c *"))[1])
 
@@ -327,62 +303,21 @@ ASKED = [publish("app", "1.0.0", ["log ^1"]), publish("app", "1.1.0", ["log ^2"]
          *(publish("log", it) for it in ("1.0.0", "2.0.0", "2.1.0", "2.2.0")), yank("log", "2.2.0")]
 
 
-class Typed(unittest.TestCase):
-    def setUp(self):
-        folder = tempfile.TemporaryDirectory()
-        self.addCleanup(folder.cleanup)
-        self.folder = folder.name
-
-    def file(self, name, lines):
-        path = os.path.join(self.folder, name)
-        with open(path, "w", encoding="utf-8") as out:
-            out.write("".join(line + "\n" for line in lines))
-        return path
-
-    def why(self, *words):
-        return registry("why", *words)
-
-    def journal(self, lines, name="journal"):
-        path = os.path.join(self.folder, name)
-        self.assertEqual(run(["serve", "--workers", "1", "--save", path],
-                             "".join(it + "\n" for it in lines).encode()).returncode, 0)
-        return path
-
+class Typed(Folder):
     def test_the_picture_of_why_a_version_is_not_selected(self):
-        journal, picture = self.journal(ASKED), os.path.join(self.folder, "why.svg")
+        self.hold(*ASKED)
         # a selection with the version, which the request then asks for; and why there is none with it
         for version, shown, dots in (
                 ("1.0.0", ["app *: a selection with log 1.0.0", "the request", "app 1.0.0", "log 1.0.0"],
                  ["the request needs app *", "the request needs log =1.0.0", "app 1.0.0 needs log ^1"]),
                 ("2.2.0", ["app *: log 2.2.0 can't be selected", "1", "log 2.2.0 can't be selected",
                            "because log 2.2.0 is asked for and log 2.2.0 is yanked"], [])):
-            self.assertEqual(self.why("--journal", journal, "app *", "--not", "log", version, "--picture", picture)[0],
-                             0)
-            with open(picture, encoding="utf-8") as file:
-                top, texts, _ = drawn(file.read())
+            status, *_ = self.registry("why", "app *", "--not", "log", version, "--picture", self.path("why.svg"))
+            top, texts, _ = drawn(self.text("why.svg"))
             # without what says how the picture is read
-            self.assertEqual([said for said, _, _ in texts if not said.startswith(("From a package", "A box is"))],
-                             shown)
+            said = [it for it, _, _ in texts if not it.startswith(("From a package", "A box is"))]
+            self.assertEqual((status, said), (0, shown))
             self.assertEqual([it.text for it in top.iter(SVG + "title")], dots)
-
-    def test_a_race(self):
-        # one file asks before what it asks for can be there, the other once it is: each is told of its own revision
-        request = json.dumps({**json.loads(resolve("a ^1")), "explain": True})
-        files = [self.file("one", [request]), self.file("two", [publish("a", "2.0.0"), request])]
-        done = run(["race", *files]).stdout.decode().splitlines()
-        journal = self.file("journal", done[3:])
-        unmet = ("Because the request depends on a ^1 and no version of a matches ^1, resolving failed.\n"
-                 "  No version of a matches ^1; there is 2.0.0.\n")
-        unpublished = "Because the request depends on a ^1 and no version of a is published, resolving failed.\n"
-        self.assertEqual(self.why("--journal", journal, "--asked", files[1], "--told", self.file("told", done[1:3])),
-                         (0, "request 2, a ^1: refused at revision 1\n  " + unmet, ""))
-        # what the other file was told, as if this one had asked it: the revision is the journal's
-        self.assertEqual(self.why("--journal", journal, "--asked", files[0], "--told", self.file("told", done[2:3])),
-                         (0, "request 1, a ^1: refused at revision 1\n  " + unmet, ""))
-        revision = json.loads(done[0])["revision"]
-        self.assertEqual(self.why("--journal", journal, "--asked", files[0], "--told", self.file("told", done[:1])),
-                         (0, f"request 1, a ^1: refused at revision {revision}\n  "
-                          + (unmet if revision else unpublished), ""))
 
     def test_the_page(self):
         # what docs/WHY.md tells to type prints what it says, and its pictures are those that are drawn

@@ -5,13 +5,14 @@ import json
 import os
 import random
 import unittest
+from pathlib import Path
 from unittest import mock
 
 from registry_cli import questions
 from registry_cli.check_derivation import Judge
 from registry_cli.derivation import Holding
-from registry_cli.packages import is_preferred, registry_of, walk
-from registry_cli.questions import Question, bundled
+from registry_cli.packages import registry_of
+from registry_cli.questions import Question
 from tests.support.called import registry
 from tests.support.plain_newest import Published
 from tests.support.program import PROGRAM, publish, resolve, run
@@ -65,8 +66,7 @@ class Told(Folder):
 
     def test_two_before_it_are_told_as_english(self):
         lines = [*(publish(name, version) for name in "abc" for version in ("1.0.0", "2.0.0")), publish("z", "1.0.0"),
-                 publish("z", "2.0.0", ["w *"]),
-                 publish("w", "1.0.0", ["a ~1.0"]), publish("w", "2.0.0", ["b ~1.0"])]
+                 publish("z", "2.0.0", ["w *"]), publish("w", "1.0.0", ["a ~1.0"]), publish("w", "2.0.0", ["b ~1.0"])]
         self.hold(*lines)
         said = self.why_not(["a", "b", "c", "z"], "z 2.0.0")
         first, *_ = said.splitlines()
@@ -81,7 +81,10 @@ class Told(Folder):
         for count in (62, 90, 200):
             lines, _ = wide(count, every=False)
             self.hold(*lines)
-            said = self.why_not(["app"], "z 2.0.0")
+            said = self.why_not(["app"], "z 2.0.0", "--picture", self.path("why.svg"))
+            for told in ("because z 2.0.0 depends on part-005 \"=1.0.0\" and z 2.0.0 is asked for",
+                         "the selection has part-005 2.0.0"):
+                self.assertIn(told, self.text("why.svg"))
             self.assertEqual(said, """\
 app *: z 2.0.0 can't be selected with part-005 2.0.0, which comes before it
   Because z 2.0.0 depends on part-005 "=1.0.0" and z 2.0.0 is asked for, the selection requires part-005 "=1.0.0".
@@ -95,16 +98,14 @@ a selection with z 2.0.0 also changes:
     def test_all_of_more_packages_than_a_request_may_need(self):
         lines, parts = wide(90, every=True)
         self.hold(*lines)
-        with open(self.journal, "rb") as file:
-            before = file.read()
+        before = Path(self.journal).read_bytes()
         said = self.why_not(["app"], "z 2.0.0")
         names = [f"{name} 2.0.0" for name in parts]
         self.assertEqual(said.splitlines()[0], f"app *: z 2.0.0 can't be selected with {', '.join(names[:-1])} and "
                                                f"{names[-1]}, which come before it")
         self.assertNotIn("made", said)
         reader_of(lines, [["app", "*"]], [], "z", "2.0.0", [(name, "2.0.0") for name in parts]).read(self.english(said))
-        with open(self.journal, "rb") as file:
-            self.assertEqual(file.read(), before)
+        self.assertEqual(Path(self.journal).read_bytes(), before)
 
     def test_a_session_of_lines(self):
         lines, _ = wide(90, every=False)
@@ -115,14 +116,6 @@ a selection with z 2.0.0 also changes:
         status, said, fault = registry("why", "--asked", turns, "--not", "z", "2.0.0")
         title = f"request {len(lines)}, app *: z 2.0.0 can't be selected with part-005 2.0.0, which comes before it"
         self.assertEqual((status, said.splitlines()[0], fault), (0, title, ""))
-
-    def test_the_picture_is_of_the_derivation(self):
-        lines, _ = wide(90, every=False)
-        self.hold(*lines)
-        self.why_not(["app"], "z 2.0.0", "--picture", self.path("why.svg"))
-        for told in ("because z 2.0.0 depends on part-005 \"=1.0.0\" and z 2.0.0 is asked for",
-                     "the selection has part-005 2.0.0"):
-            self.assertIn(told, self.text("why.svg"))
 
     def test_versions_that_no_requirement_names_alone(self):
         self.hold(publish("p", LONG), publish("p", LONG[:-1]), publish("p", "2.0.0"),
@@ -147,39 +140,6 @@ a selection with z 2.0.0 also changes:
 
 
 class Asked(unittest.TestCase):
-    def test_the_walk(self):
-        lines = [publish("b", "1.0.0", ["d *", "c *"]), publish("a", "1.0.0", ["e *", "c *"]),
-                 *(publish(name, "1.0.0") for name in "cf"),
-                 publish("d", "1.0.0", ["f *", "a *"]), publish("e", "1.0.0", ["g *"]), publish("g", "1.0.0")]
-        made = registry_of([json.loads(it) for it in lines], set("abcdefg"))
-        # the needs by name, then what a needs in published order, then what b needs, and what e, c and d do
-        self.assertEqual(walk([["b", "*"], ["a", "*"]], dict.fromkeys("abcdefg", "1.0.0"), made),
-                         ["a", "b", "e", "c", "d", "g", "f"])
-
-    def test_what_is_preferred(self):
-        for one, other, locked, wanted in (("2.0.0", "1.0.0", None, True), ("1.0.0", "2.0.0", None, False),
-                                           ("1.0.0", "2.0.0", "1.0.0", True),
-                                           ("2.0.0", "1.0.0", "1.0.0", False), ("2.0.0", "1.0.0", "3.0.0", True),
-                                           ("1.0.0", "1.0.0+b", None, False),
-                                           ("1.0.0-b", "1.0.0-a", None, True), ("1.0.0", "1.0.0-a", None, True)):
-            self.assertEqual(is_preferred(one, other, locked), wanted, (one, other, locked))
-
-    def test_packages_that_are_made(self):
-        needs = [[f"p{number}", "*"] for number in range(64 * 64 + 1)]
-        self.assertEqual(bundled(needs[:64], []), (needs[:64], []))
-        for count in (65, 128, 64 * 64 + 1):
-            asked, made = bundled(needs[:count],
-                                  [json.loads(publish("made", "1.0.0")),
-                                   json.loads(publish("a", "1.0.0", ["made-7 *"]))])
-            names = {it["name"]: it["needs"] for it in made}
-            self.assertTrue(len(names) == len(made) and all(name.startswith("made--") and len(held) <= 64 for name,
-                                                            held in names.items()))
-            found, waiting = [], [name for name, _ in asked]
-            for name in waiting:
-                waiting += [target for target, _ in names.get(name, [])]
-                found += [] if name in names else [name]
-            self.assertEqual(found, [name for name, _ in needs[:count]])
-
     def test_what_is_answered_over_random_registries(self):
         """A request may have two needs: so each question takes packages that are made. Each answer is that of a list of
         all selections, and each derivation follows over the registry alone, without them."""

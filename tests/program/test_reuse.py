@@ -123,7 +123,6 @@ class Reuse(unittest.TestCase):
                 self.assertEqual(status, 0, f"{told}: {printed}")
                 derived += printed.count(" follows\n")
         self.assertGreater(min(found, refused, derived), 500)
-        print(f"({found} selections, {refused} refusals, {derived} derivations) ", end="")
 
     def test_a_file_of_a_race_is_answered_alike(self):
         for seed in range(SEEDS):
@@ -140,7 +139,6 @@ class Reuse(unittest.TestCase):
     def test_files_of_a_race_serve_one_another(self):
         """Each file has some of a session's commands, and all of its requests. Each reply is judged at its revision of
         the journal that all files share."""
-        answered = 0
         for seed in range(SEEDS // 3):
             files = dealt(session_of(seed).asked(0), random.Random(seed))
             printed, journal = raced([[json.dumps(it) for it in asked] for asked in files])
@@ -151,10 +149,8 @@ class Reuse(unittest.TestCase):
                     if request["op"] == "resolve":
                         self.lawful(request, places.answers(request, reply["revision"]), reply,
                                     f"{told}: {request} answered {reply}")
-                        answered += 1
                 status, said = said_of(asked, replies, journal)
                 self.assertEqual(status, 0, f"{told}: {said}")
-        print(f"({answered} requests) ", end="")
 
     def test_what_one_request_led_to_serves_the_next(self):
         """Each request is asked under small budgets, then without one, and under these budgets again."""
@@ -175,7 +171,6 @@ class Reuse(unittest.TestCase):
                 first += sum(map(is_spent, told[:len(BUDGETS)]))
                 again += sum(map(is_spent, told[len(BUDGETS):]))
         self.assertLess(again, first)
-        print(f"(spent {first} times, and then {again} times) ", end="")
 
 
 BUDGETS = (0, 1, 2)

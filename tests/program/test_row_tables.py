@@ -14,7 +14,6 @@ GOOD = '# A set.\n# Source: by definition.\n{"of":"set","call":"len","a":[1],"gi
 
 def asked(tables):
     assert faults(tables) == {}
-    print(f"({len(tables)} tables, {sum(len(table.rows) for table in tables)} rows) ", end="")
 
 
 @pytest.mark.parametrize("name", sorted(os.listdir(row_tables.ROWS)))

@@ -115,8 +115,7 @@ class Places(Saved):
         for closed, told in (("<&-", b"registryd: input failed\n"), (">&-", FAILED)):
             for option, file in (("--save", self.saved), ("--journal", kept)):
                 done = subprocess.run(["sh", "-c", f'printf "%s\\n" \'{line}\' | {{ "$0" serve --workers 1 {option} '
-                                                   f'{file} {closed}; }}', PROGRAM],
-                                      stdout=subprocess.PIPE, stderr=subprocess.PIPE, timeout=60)
+                                       f'{file} {closed}; }}', PROGRAM], capture_output=True, timeout=60)
                 self.assertEqual((done.returncode, done.stdout, done.stderr), (1, b"", told), (closed, option))
         # a command that was accepted is kept, though it could not be told
         self.assertEqual((self.left(), self.read(kept)), (OLD, journal([line]).removesuffix(b"end 1\n")))
@@ -214,9 +213,8 @@ class Calls(Saved):
         failed = set()
         for is_there in (True, False):
             for call, error in (("open", "EACCES"), *((look, "EIO") for look in self.LOOKS), ("flock", "ENOLCK"),
-                                ("write", "ENOSPC"), ("fsync", "EIO"), ("rename", "EXDEV"),
-                                ("link", "EIO"), ("unlink", "EIO"), ("fchmod", "EPERM"), ("fchown", "EPERM"),
-                                ("close", "EIO")):
+                                ("write", "ENOSPC"), ("fsync", "EIO"), ("rename", "EXDEV"), ("link", "EIO"),
+                                ("unlink", "EIO"), ("fchmod", "EPERM"), ("fchown", "EPERM"), ("close", "EIO")):
                 for number in range(1, 30):
                     self.begin(is_there)
                     done, came = Break(call, number, error).run(self.breaking, [*SERVE, "--save", self.saved], GIVEN)

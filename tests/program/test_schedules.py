@@ -30,7 +30,6 @@ class Schedules(unittest.TestCase):
                 self.assertIsNone(find)
                 lines, entries = lines + asked, entries + entered
         self.assertGreater(min(lines, entries), 1000)
-        print(f"({lines} lines, {entries} entries) ", end="")
 
 
 def told(*lines, journal):

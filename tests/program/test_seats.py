@@ -13,35 +13,17 @@ import pytest
 
 from dev.long import race_many
 from tests.program import test_embedded_calls, test_race
-from tests.program.test_embedded_calls import ADDRESS, THREADS, VALGRIND
 from tests.program.test_journals import CHAIN_LEARNT, CONFLICT, journal
 from tests.support import plain_race, program
-from tests.support.library import FOLDER, LACKING, TESTS, linked, linked_with_sources, needs_library
+from tests.support.library import FOLDER, LACKING, TESTS, linked, needs_library
 from tests.support.program import skip_without
 
 pytestmark = pytest.mark.not_quick("the static library")
 CALLS, RACE = os.path.join(TESTS, "c_seat_calls.c"), os.path.join(TESTS, "seats_race.c")
 
 
-@needs_library
-@skip_without("cc", "gcc")
 class Calls(test_embedded_calls.Calls):
-    def test_by_itself(self):
-        linked(self.caller, CALLS)
-        self.tried("calls", "forks", "threads")
-
-    @skip_without("valgrind", "valgrind")
-    def test_under_valgrind(self):
-        linked(self.caller, CALLS, "-g")
-        self.tried("calls", "threads", before=VALGRIND)
-
-    def test_under_the_sanitizers_of_addresses_and_of_what_is_undefined(self):
-        linked_with_sources(self.caller, CALLS, *ADDRESS)
-        self.tried("calls", "forks", "threads")
-
-    def test_under_the_sanitizer_of_threads(self):
-        linked_with_sources(self.caller, CALLS, *THREADS)
-        self.tried("calls", "threads")
+    SOURCE, KINDS = CALLS, ("calls", "forks", "threads")
 
 
 def racing(case):
@@ -49,9 +31,7 @@ def racing(case):
     tests."""
     if not FOLDER:
         raise unittest.SkipTest(LACKING)
-    folder = tempfile.TemporaryDirectory()
-    case.addClassCleanup(folder.cleanup)
-    return linked(os.path.join(folder.name, "race"), RACE)
+    return linked(os.path.join(case.enterClassContext(tempfile.TemporaryDirectory()), "race"), RACE)
 
 
 @needs_library
@@ -100,8 +80,7 @@ class Judged(unittest.TestCase):
         for path, lines in zip(paths, files):
             with open(path, "wb") as out:
                 out.writelines(line + b"\n" for line in lines)
-        done = subprocess.run([self.race, "race", *paths], env={**os.environ, **env}, capture_output=True, timeout=300,
-                              check=False)
+        done = subprocess.run([self.race, "race", *paths], env={**os.environ, **env}, capture_output=True, timeout=300)
         self.assertEqual((done.returncode, done.stderr), (0, b""))
         return done.stdout.decode()
 
@@ -152,7 +131,3 @@ class Judged(unittest.TestCase):
                 self.assertTrue(printed.endswith(b"\n" + text), text)
                 entries = text.count(b"\n") - 2
                 self.assertEqual([json.loads(it)["place"] for it in printed.splitlines()[:count]], [entries] * count)
-
-
-if __name__ == "__main__":
-    unittest.main()

@@ -1,10 +1,10 @@
-"""A person at a terminal is told what `serve` waits for, and nobody else is."""
+"""A person at a terminal is told what `serve` waits for, and nobody else is; and a client that waits for each reply."""
 import os
 import pty
 import subprocess
 import unittest
 
-from tests.support.program import PROGRAM, SERVE, run
+from tests.support.program import PROGRAM, SERVE, end, publish, read_lines, run, talking
 
 WAITING = b'registryd: waiting for request lines, such as {"op":"list"}; Ctrl-D ends them\n'
 # what a terminal sends on as the end of input
@@ -26,13 +26,15 @@ def at_terminal(words, typed):
 
 
 class Terminal(unittest.TestCase):
-    def test_serve_says_what_it_waits_for(self):
+    def test_what_is_said_where_it_waits(self):
         typed = b'{"op":"list"}\n' + CTRL_D
-        self.assertEqual(at_terminal(SERVE, typed), (0, b'{"packages":[],"revision":0}\n', WAITING))
-
-    def test_the_last_line_tells_how_it_ended(self):
-        status, told, said = at_terminal([*SERVE, "--load", "no/such/file"], CTRL_D)
-        self.assertEqual((status, told, said), (1, b"", WAITING + b"registryd: input failed\n"))
+        for words, typed, *wanted in ((SERVE, typed, 0, b'{"packages":[],"revision":0}\n', WAITING),
+                                      # the last line tells how it ended
+                                      ([*SERVE, "--load", "no/such/file"], CTRL_D, 1, b"",
+                                       WAITING + b"registryd: input failed\n"),
+                                      (["race", os.devnull], CTRL_D, 0, b"registry-journal 2\nend 0\n", b"")):
+            with self.subTest(words=words):
+                self.assertEqual(at_terminal(words, typed), tuple(wanted))
 
     def test_words_that_are_bad_wait_for_nothing(self):
         for words in ([], ["serve"]):
@@ -48,10 +50,13 @@ class Terminal(unittest.TestCase):
                 self.assertEqual((status, said), (0, b""))
                 self.assertIn(b"Usage: registryd ", told)
 
-    def test_a_race_waits_for_nothing(self):
-        status, told, said = at_terminal(["race", os.devnull], CTRL_D)
-        self.assertEqual((status, told, said), (0, b"registry-journal 2\nend 0\n", b""))
-
     def test_no_program_is_told(self):
         done = run(SERVE, b'{"op":"list"}\n')
         self.assertEqual((done.returncode, done.stderr), (0, b""))
+
+    def test_a_client_that_waits_gets_each_reply(self):
+        with talking() as client:
+            for n in range(3):
+                client.stdin.write(publish("a", f"1.{n}.0").encode() + b"\n")
+                self.assertEqual(read_lines(client, 1), b'{"ok":true,"revision":%d}\n' % (n + 1))
+            self.assertEqual(end(client), (b"", 0))

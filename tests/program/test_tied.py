@@ -45,16 +45,12 @@ class Tied(unittest.TestCase):
         return [int(it) for line in lines if line != [b"tied"] for it in line]
 
     def test_a_program_whose_parent_is_killed(self):
-        (child,) = self.killed("", "sh", "-c", "echo $$; exec sleep 600")
-        self.assertTrue(is_gone(child))
-
-    def test_a_program_that_would_heed_no_other_signal(self):
-        (child,) = self.killed("", "sh", "-c", "trap '' HUP INT TERM IO; echo $$; exec sleep 600")
-        self.assertTrue(is_gone(child))
-
-    def test_what_a_program_has_begun_in_its_group(self):
-        told = self.killed("0", "sh", "-c", "sleep 600 & echo $$ $!; wait")
-        self.assertEqual((len(told), [is_gone(it) for it in told]), (2, [True, True]))
+        for group, script, count in (("", "echo $$; exec sleep 600", 1),
+                                     # one that would heed no other signal, and what a program has begun in its group
+                                     ("", "trap '' HUP INT TERM IO; echo $$; exec sleep 600", 1),
+                                     ("0", "sleep 600 & echo $$ $!; wait", 2)):
+            with self.subTest(script):
+                self.assertEqual([is_gone(it) for it in self.killed(group, "sh", "-c", script)], [True] * count)
 
     def test_a_program_whose_parent_ends_by_itself(self):
         code = BEGIN.replace(WAITS, "print(held.pid)")
@@ -114,9 +110,7 @@ class Searches(unittest.TestCase):
 
     def setUp(self):
         self.enterContext(program.in_time(2 * program.PATIENCE))
-        folder = tempfile.TemporaryDirectory()
-        self.addCleanup(folder.cleanup)
-        self.path = os.path.join(folder.name, "journal")
+        self.path = os.path.join(self.enterContext(tempfile.TemporaryDirectory()), "journal")
         with open(self.path, "w", encoding="ascii") as file:
             file.write("\n".join(["registry-journal 1", *map(program.journal_line, PLACES), f"end {len(PLACES)}", ""]))
 
@@ -127,8 +121,7 @@ class Searches(unittest.TestCase):
         founded = fronts.run("found", [gate.url], "--load", self.path)
         self.assertEqual((founded.returncode, founded.stderr), (0, b""))
         running = subprocess.Popen(fronts.words("serve", [gate.url]), stdin=subprocess.PIPE, stdout=subprocess.PIPE,
-                                   stderr=subprocess.PIPE,
-                                   preexec_fn=heed_signals)
+                                   stderr=subprocess.PIPE, preexec_fn=heed_signals)
         self.addCleanup(end, running)
         running.stdin.write(f"{resolve('hole-0 *')}\n{LONG}\n".encode())
         running.stdin.flush()
@@ -160,16 +153,6 @@ class Searches(unittest.TestCase):
             self.assertFalse(is_idle(child))
             tool.kill()
         self.assertTrue(is_gone(child))
-
-    def test_commands_that_run_the_program(self):
-        for words in (["resolve", *BIRDS], ["why", *BIRDS]):
-            command = [os.path.join(TOP, "registry"), *words, "--journal", self.path]
-            with subprocess.Popen(command, env={**os.environ, "REGISTRY_PROGRAM": PROGRAM},
-                                  stdout=subprocess.PIPE) as tool:
-                child = child_of(tool.pid)
-                self.assertFalse(is_idle(child))
-                tool.kill()
-            self.assertTrue(is_gone(child), words)
 
 
 def open_files():

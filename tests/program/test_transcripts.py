@@ -29,5 +29,7 @@ class TestTranscripts:
 
     @pytest.mark.parametrize("transcript", TRANSCRIPTS, ids=lambda path: path.stem)
     def test_transcript(self, shell, transcript):
-        _, _, difference = cram.testfile(os.fsencode(transcript), shell="/bin/bash")
+        _, said, difference = cram.testfile(os.fsencode(transcript), shell="/bin/bash")
+        if said is None:  # it ended with 80
+            pytest.skip("there is not what it is about")
         assert not b"".join(difference).decode()

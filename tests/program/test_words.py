@@ -3,6 +3,7 @@ fail. `command_lines.py` says how they are written."""
 import os
 import tempfile
 import unittest
+from pathlib import Path
 
 from tests.support.command_lines import cases
 from tests.support.preloaded import BREAK_CALLS, built
@@ -16,12 +17,10 @@ class Words(unittest.TestCase):
 
     def make(self, folder, files):
         for name, text in files.items():
-            with open(os.path.join(folder, name), "w", encoding="ascii") as out:
-                out.write(text)
+            Path(folder, name).write_text(text, encoding="ascii")
 
     def read(self, folder, name):
-        with open(os.path.join(folder, name), encoding="ascii") as file:
-            return file.read()
+        return Path(folder, name).read_text(encoding="ascii")
 
     def ran(self, case, words, folder):
         """What a run left, and what it printed."""
@@ -72,7 +71,6 @@ class Words(unittest.TestCase):
                     self.compare(case, words)
                 count += 1
         self.assertGreater(count, least)
-        print(f"({count} command lines) ", end="")
 
     def test_words(self):
         self.of_file("words.rows", 30)

@@ -8,6 +8,7 @@ import unittest
 
 from registry_cli.check_derivation import NAME, ORDINALS, formed
 from registry_cli.limits import MOST_LINE_BYTES
+from tests.program.test_check_derivation import rows
 from tests.support import lines_schema, said
 from tests.support.lines_schema import KINDS, SAID
 from tests.support.plain_session import read_json
@@ -15,22 +16,6 @@ from tests.support.tables import tables_under
 
 BAD_LINE, NO_MEMORY = 19, 18
 WITHOUT = "Python's jsonschema is not there (Debian: python3-jsonschema)"
-# What no line has, and the kind it is nearly of. Worked by hand from docs/FORMATS.md.
-WRONG = {
-    "reply": """
-        {"ok":false,"revision":1}   {"ok":true}   {"ok":true,"revision":-1}   {"ok":true,"revision":"1"}
-        {"ok":true,"revision":1,"place":1}   {"ok":true,"revision":1,"seat":1}
-        {"ok":true,"place":1,"revision":1,"seat":0} {"error":7,"name":"BadName","revision":0}
-        {"error":14,"name":"Stale","revision":0}   {"error":19,"revision":0} {"revision":0,"selected":[["a"]]}
-        {"revision":0,"selected":[["a","1"]]}   {"revision":0,"selected":[["A","1.0.0"]]} {"refused":false,"revision":0}
-        {"explanation":["",""],"refused":true,"revision":0}
-        {"derivation":[],"explanation":["",""],"refused":true,"revision":0}   {"follows":1,"revision":0}
-        {"packages":[["a",[]]],"revision":0}   {"packages":[["a",[["1.0.0"]]]],"revision":0}   {"op":"list"}""",
-    "journal": """
-        {"op":"list"}   {"name":"A","op":"yank","version":"1.0.0"}   {"name":"a","op":"yank","version":"1.0"}
-        {"name":"a","needs":[["b",""]],"op":"publish","version":"1.0.0"}   {"derivation":[],"op":"learn"}
-        {"derivation":[{"causes":[{"fact":"root"},{"line":1}],"conclusion":[],"pivot":"a"}],"op":"learn"}""",
-}
 
 
 def references(value):
@@ -94,7 +79,6 @@ class WrittenLines(unittest.TestCase):
 
     def test_lines_that_are_of_their_form(self):
         self.assertEqual([self.good[place] for place in lines_schema.refused(self.good)][:3], [])
-        print(f"({len(self.good)} lines) ", end="")
 
     def test_lines_that_are_not_of_their_form(self):
         self.assertGreater(len(self.bad), 100)
@@ -102,8 +86,7 @@ class WrittenLines(unittest.TestCase):
         left = [(line, value) for place, (line, value) in enumerate(self.bad) if place not in refused]
         self.assertEqual([line for line, value in left if is_all_rising(value)][:3], [])
         self.assertGreater(len(refused), 100)
-        print(f"({len(refused)} lines, and {len(left)} whose ordinals don't rise) ", end="")
 
     def test_what_is_no_line(self):
-        wrong = [(kind, json.loads(line)) for kind, lines in WRONG.items() for line in lines.split()]
+        wrong = [(kind, json.loads(line)) for kind, _, line in (row.partition(": ") for row in rows("wrong_lines.txt"))]
         self.assertEqual(lines_schema.refused(wrong), list(range(26)))

@@ -58,3 +58,24 @@ shown as ~ here.
     ~[1;31mNo version of log matches ^3~[0m; there is 1.0.0.
   $ coloured list --json
   [{"name":"app","newest":"1.0.0","versions":1,"yanked":0},{"name":"log","newest":"1.0.0","versions":1,"yanked":0},{"name":"web","newest":"1.0.0","versions":1,"yanked":0},{"name":"zlib","newest":"2.0.0","versions":3,"yanked":1}]
+
+Where there is no terminal, there is colour where it is asked for alone, and never in JSON.
+
+  $ for words in "" "--color auto" "--color always" "--color always --json"; do registry list $words | tr '\033' '~' | grep -c '~'; done
+  0
+  0
+  4
+  0
+  [1]
+  $ registry list --color blue
+  registry: argument --color: invalid choice: 'blue' (choose from 'auto', 'always', 'never'): see `registry list --help`
+  [2]
+
+Names that are words of sentences.
+
+  $ rm registry.journal
+  $ registry publish version 1.0.0 the
+  published version 1.0.0 (revision 1)
+  registry: so far no version of the is published
+  $ coloured resolve version | grep Because
+    Because every version of version depends on ~[1;31mthe *~[0m and ~[1;31mno version of the is published~[0m, version is forbidden.

@@ -138,3 +138,30 @@ Journals at fault: what `registry journal verify` says of the line that is, and 
   5: at fault: it has 0 lines, and 1 to 256 are allowed
   registryd: journal line 5
   [1]
+
+What is whole, and what is cut: in the midst of its end, of a line or of the first one, and behind each.
+
+  $ state() { cat > x.journal; registry journal verify x.journal | sed -E 's/^x.journal: (whole|cut): (format ., )?/\1: /; s/, which is not finished.*//'; }
+  $ whole "$a" "$b" "$c" "$learn" "$yank" > held
+  $ state < held
+  whole: 4 commands and 1 learnt, revision 4
+  $ whole | state
+  whole: 0 commands and 0 learnt, revision 0
+  $ whole "$a" "$c" | sed '1s/2/1/' | state
+  whole: 2 commands and 0 learnt, revision 2
+  $ head -c -1 held | state
+  cut: 4 commands and 1 learnt, revision 4; its last line is 7
+  $ head -c -6 held | state
+  cut: 4 commands and 1 learnt, revision 4; its last line is 7
+  $ head -c -7 held | state
+  cut: 3 commands and 1 learnt, revision 3; its last line is 6
+  $ echo registry-journal 2 | state
+  cut: 0 commands and 0 learnt, revision 0; its last line is 2
+  $ printf 'registry-journal 2\nend' | state
+  cut: 0 commands and 0 learnt, revision 0; its last line is 2
+  $ for beginning in 'registry-journal 2' regis ''; do printf %s "$beginning" | state; done
+  cut: no items, revision 0; its last line is 1
+  cut: no items, revision 0; its last line is 1
+  cut: no items, revision 0; its last line is 1
+  $ (lines 'registry-journal 2' "$a"; printf '\0\0') | state
+  cut: 1 command and 0 learnt, revision 1; its last line is 3

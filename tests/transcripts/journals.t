@@ -113,3 +113,80 @@ a checkout, which is built first.
   no compiler
   registry: the program ./broken ended with status 1 before it had answered
   [3]
+
+One in use is read up to its last line, and not written.
+
+  $ rm registry.journal
+  $ registry publish a 1.0.0
+  published a 1.0.0 (revision 1)
+  $ mkfifo lines
+  $ registryd serve --workers 1 --journal registry.journal < lines > replies &
+  $ holder=$!
+  $ exec 9> lines
+  $ echo '{"op":"publish","name":"b","version":"1.0.0","needs":[["a","^1"]]}' >&9
+  $ until grep -q ok replies; do sleep 0.01; done
+  $ tail -n 1 registry.journal
+  {"name":"b","needs":[["a","^1"]],"op":"publish","version":"1.0.0"}
+  $ registry list
+  a  1.0.0  1 version
+  b  1.0.0  1 version
+  $ registry tree b
+  b 1.0.0
+  └── a 1.0.0
+  $ registry publish c 1.0.0 --wait 0 2>&1 | sed "s/process $holder,/process HOLDER,/; s/--journal r.*\"/..\"/"
+  registry: registry.journal is in use by another session (process HOLDER, "registryd serve --workers 1 .."): try again once that has ended
+  $ exec 9>&-
+  $ wait $holder
+  $ registry publish c 1.0.0
+  published c 1.0.0 (revision 3)
+
+One that was cut is read to its last whole line, left as it is, and gone on with.
+
+  $ cp registry.journal whole.journal
+  $ for cut in 6 7 8 70; do
+  >   head -c -$cut whole.journal | tee registry.journal > before
+  >   registry list | wc -l
+  >   cmp registry.journal before
+  >   registry publish d 1.0.0
+  > done
+  3
+  published d 1.0.0 (revision 4)
+  2
+  published d 1.0.0 (revision 3)
+  2
+  published d 1.0.0 (revision 3)
+  1
+  published d 1.0.0 (revision 2)
+
+What was learnt is passed over: the journal of the page on formats that has a line of it.
+
+  $ sed -n '/^    registry-journal 2$/,/^    end/{s/^    //p;/^end/q}' "$TESTDIR"/../../docs/FORMATS.md > shown
+  $ grep -c '"op":"learn"' shown
+  1
+  $ cp shown registry.journal
+  $ registry tree a
+  a 1.0.0
+  └── b 1.0.0
+      └── c 1.0.0
+  $ registry resolve c@^2
+  c ^2: refused at revision 3
+    Because the request depends on c ^2 and no version of c matches ^2, resolving failed.
+    No version of c matches ^2; there is 1.0.0.
+  [1]
+  $ registry publish d 1.0.0
+  published d 1.0.0 (revision 4)
+  $ head -n -2 registry.journal | cmp - <(head -n -1 shown)
+
+A command that has no program beside it takes the one of the path: here nothing else is on it, where a test of the
+package may have installed one.
+
+  $ mkdir away bin
+  $ cp -rL "$TESTDIR"/../../registry "$TESTDIR"/../../registry_cli "$TESTDIR"/../../registryd_lines away
+  $ ln -s "$(command -v python3)" bin/python3
+  $ away() { env -u REGISTRY_PROGRAM PATH="$PWD/bin" away/registry publish a 1.0.0 --journal away.journal; }
+  $ away
+  registry: the program registryd is not found: put it on the path, or name it by REGISTRY_PROGRAM
+  [3]
+  $ ln -s "$REGISTRY_PROGRAM" bin/registryd
+  $ away
+  published a 1.0.0 (revision 1)

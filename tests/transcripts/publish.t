@@ -120,7 +120,7 @@ Nothing was changed, and the journal is whole.
 
 A package with as many versions as there may be.
 
-  $ seq -f "publish many 0.0.%g" 4096 | hold
+  $ (echo registry-journal 2; seq -f '{"name":"many","needs":[],"op":"publish","version":"0.0.%g"}' 4096; echo end 4096) > registry.journal
   $ registry publish many 1.0.0
   registry: registry.journal has 4,096 of 4,096 versions of many: `registry journal renew` begins a smaller journal
   registry: many has 4,096 versions, which is the limit

@@ -271,7 +271,9 @@ Five pigeons in four holes: a pigeon's version names a hole, of which one versio
 
 A long chain.
 
-  $ (seq 0 2998 | while read number; do echo publish p$number 1.0.0 p$((number + 1)); done; echo publish p2999 1.0.0) | hold
+  $ (echo registry-journal 2
+  >  seq 0 2998 | awk '{ printf("{\"name\":\"p%d\",\"needs\":[[\"p%d\",\"*\"]],\"op\":\"publish\",\"version\":\"1.0.0\"}\n", $1, $1 + 1) }'
+  >  echo '{"name":"p2999","needs":[],"op":"publish","version":"1.0.0"}'; echo end 3000) > registry.journal
   $ registry tree p0 > tree
   $ wc -l < tree
   3000

@@ -237,3 +237,28 @@ Wrong words.
   registry: argument --request: x is no number from 1 to 4294967295: see `registry why --help`
   registry: argument --request: 0 is no number from 1 to 4294967295: see `registry why --help`
   [2]
+
+A race: one file asks before what it asks for can be there, the other once it is. Each is told of its own revision, which
+is the journal's, also where a file is told what the other one was.
+
+  $ echo '{"op":"resolve","needs":[["a","^1"]],"explain":true}' > one
+  $ (echo '{"op":"publish","name":"a","version":"2.0.0","needs":[]}'; cat one) > two
+  $ registryd race one two > raced
+  $ tail -n +4 raced > race.journal
+  $ sed -n 2,3p raced > told
+  $ registry why --journal race.journal --asked two --told told
+  request 2, a ^1: refused at revision 1
+    Because the request depends on a ^1 and no version of a matches ^1, resolving failed.
+    No version of a matches ^1; there is 2.0.0.
+  $ sed -n 3p raced > told
+  $ registry why --journal race.journal --asked one --told told
+  request 1, a ^1: refused at revision 1
+    Because the request depends on a ^1 and no version of a matches ^1, resolving failed.
+    No version of a matches ^1; there is 2.0.0.
+  $ sed -n 1p raced > told
+  $ registry why --journal race.journal --asked one --told told > said
+  $ case $(head -n 1 said) in
+  >   *"revision 0") grep -c "no version of a is published, resolving failed" said;;
+  >   *"revision 1") grep -c "no version of a matches ^1, resolving failed" said;;
+  > esac
+  1
