@@ -2,6 +2,7 @@
 answers whether it surely does not follow then: that says the judge of `refuter.py`."""
 import functools
 
+from tests.support.made_lines import places
 from tests.support.refuter import BEYOND, ROOT
 
 STRANGE = [{"fact": "root", "index": 0}, {"fact": "ROOT"}, {}, {"line": 1, "fact": "root"},
@@ -21,23 +22,14 @@ class Damage:
 
     def change(self, kind):
         """Changes one thing of a kind; whether the derivation does not follow then."""
-        places = [(holder, key) for held, holder, key in self.places() if held == kind]
-        if not places:
+        every = [("last_line", vars(self), "rows"), ("needs", self.request, "needs"), ("lock", self.request, "lock"),
+                 *places(self.rows)]
+        found = [(holder, key) for held, holder, key in every if held == kind]
+        if not found:
             return False
-        holder, key = self.rng.choice(places)
+        holder, key = self.rng.choice(found)
         holder[key] = self.other(kind, holder[key])
         return not self.known.follows(self.rows, self.request)
-
-    def places(self):
-        """All that may be changed: its kind, what holds it, and its key there."""
-        yield from (("last_line", vars(self), "rows"), ("needs", self.request, "needs"), ("lock", self.request, "lock"))
-        for row in self.rows:
-            yield from (("pivot", row, "pivot"), ("conclusion", row, "conclusion"))
-            for term in row["conclusion"]:
-                yield from ((kind, term, place) for place, kind in enumerate(("package", "sign", "ordinals")))
-            for place, cause in enumerate(row["causes"]):
-                yield "cause", row["causes"], place
-                yield from ((key, cause, key) for key in cause if key != "fact")
 
     def other(self, kind, old):
         """Another thing of a kind."""
