@@ -1,15 +1,13 @@
 """Each function that a library exports and that does something has a wrong body, by its name."""
-import os
 import re
 
 from dev.edits.edit_files import edits_of
-from tests.support.program import TOP
+from tests.support.program import data_rows
 from tests.support.public_calls import exported, libraries, public
 
 # What only the tests are made of.
 OF_TESTS = {"rows"}
-# The others: a line has the crate, the function and why it has no wrong body.
-WITHOUT = os.path.join(TOP, "tests", "support", "data", "functions_without_edits.txt")
+# Why one has no wrong body.
 REASONS = {"reads", "looks-up", "compares", "copies", "wraps", "makes-empty", "law", "promises-nothing"}
 
 
@@ -39,8 +37,7 @@ def is_edited(name, edited, names=()):
 
 def without():
     """The functions that have none, each with its crate and the reason."""
-    with open(WITHOUT, encoding="utf-8") as file:
-        return [tuple(line.split()) for line in file if not line.startswith("#")]
+    return [tuple(row.split()) for row in data_rows("functions_without_edits.txt")]
 
 
 class TestEditedFunctions:

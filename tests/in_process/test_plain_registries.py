@@ -1,10 +1,9 @@
 """What the plain registries and searches take for versions, requirements and refusals. `test_newest.py` has what they
 select, and `rows/lies.rows` what they refuse, worked by hand."""
 import re
-from pathlib import Path
 
 from tests.support.plain_search import key, matches
-from tests.support.program import TOP
+from tests.support.program import read
 from tests.support.reference import REFUSALS
 
 # https://semver.org, section 11: the example of rising precedence, with numbers before it and behind it
@@ -20,7 +19,7 @@ class TestVersions:
         assert key("1.0.0-rc.1+x") == key("1.0.0-rc.1+y.2")
 
     def test_requirements(self):
-        table = Path(TOP, "tests/support/data/requirements.txt").read_text(encoding="utf-8")
+        table = read("tests/support/data/requirements.txt")
         full_versions = table.split("\n# ")[0].splitlines()[1:]
         for requirement, met, unmet in (row.split(" | ") for row in full_versions):
             for version in [*met.split(" "), *unmet.split(" ")]:
@@ -28,7 +27,7 @@ class TestVersions:
 
 
 def test_names_of_refusals():
-    page = Path(TOP, "docs", "REGISTRY.md").read_text(encoding="utf-8")
+    page = read("docs", "REGISTRY.md")
     names = {int(number): name for number, name in re.findall(r"^\| (\d+) \| (\w+) \|", page, re.M)}
     assert REFUSALS == {number: names[number] for number in REFUSALS}
     assert {*range(1, 14), 18, 19} <= REFUSALS.keys()

@@ -6,9 +6,8 @@ and a program makes the call, so that its lines and `test_memory.py` show that i
 gives up where there is none."""
 import re
 import unittest
-from pathlib import Path
 
-from tests.support.program import TOP
+from tests.support.program import TOP, read
 from tests.support.public_calls import clauses, said_by_clauses, that_take_memory
 from tests.support.source_calls import Sources, sources_below
 
@@ -18,10 +17,6 @@ NAME = re.compile(r"`((?:[A-Z]\w*::)?\w+)`")
 OF_TESTS = ("probe", "rows")
 # the program, and the example that the probe runs
 BEGINNINGS = {("registryd/src/main.rt", "main"), ("probe/src/team.rt", "run")}
-
-
-def page(name):
-    return Path(TOP, "docs", name).read_text(encoding="utf-8")
 
 
 def entries(using, sources):
@@ -54,13 +49,13 @@ class Reach(unittest.TestCase):
     def setUpClass(cls):
         cls.texts = sources_below(TOP)
         cls.sources = Sources(cls.texts)
-        cls.using = page("USING.md")
+        cls.using = read("docs", "USING.md")
 
     def test_each_call_that_the_pages_name_is_made(self):
         for name in ("THEOREMS.md", "MAP.md"):
             with self.subTest(name):
-                assert unreached(page(name), self.using, self.sources) == []
-                assert len(list(named(page(name), self.sources))) > 60
+                assert unreached(read("docs", name), self.using, self.sources) == []
+                assert len(list(named(read("docs", name), self.sources))) > 60
 
     def test_a_call_that_is_taken_out_is_missed(self):
         """Each of these is called in one file alone."""

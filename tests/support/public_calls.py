@@ -3,7 +3,7 @@ import re
 from collections import defaultdict
 from pathlib import Path
 
-from tests.support.program import TOP
+from tests.support.program import TOP, data_rows, read
 from tests.support.source_calls import blocks, functions_of
 
 CRATES = Path(TOP, "crates")
@@ -26,8 +26,8 @@ def libraries():
 
 def exported(crate):
     """The names that a library lets others use."""
-    text = Path(CRATES, crate, "src", "lib.rt").read_text(encoding="utf-8")
-    return {name for words in re.findall("^pub use ([^;]*);", text, re.M) for name in re.findall(r"\w+", words)}
+    uses = re.findall("^pub use ([^;]*);", read("crates", crate, "src", "lib.rt"), re.M)
+    return {name for words in uses for name in re.findall(r"\w+", words)}
 
 
 def texts_of(crate):
@@ -70,5 +70,4 @@ def clauses():
 
 def said_by_clauses():
     """The full names of the calls whose contract says all of what they do, each with the clauses that say it."""
-    rows = Path(TOP, "tests", "support", "data", "said_by_clauses.txt").read_text(encoding="utf-8").splitlines()
-    return [(name, clauses) for name, *clauses in (row.split() for row in rows if not row.startswith("#"))]
+    return [(name, clauses) for name, *clauses in map(str.split, data_rows("said_by_clauses.txt"))]

@@ -14,7 +14,7 @@ import unittest
 from pathlib import Path
 
 from tests.support.plain_remnant import remnant
-from tests.support.program import PATIENCE, PROGRAM, TOP, heed_signals, in_time, journal_line
+from tests.support.program import PATIENCE, PROGRAM, TOP, children, heed_signals, in_time, journal_line
 
 # A service whose constants are others: `MODULE.NAME=VALUE` words stand before those of the command.
 CHANGED = """
@@ -115,13 +115,11 @@ class Service:
         """The processes of its programs: the one that keeps the journal, and the readers in the order in which
         they began."""
         keepers, readers, own = [], [], words_of(self.running.pid)
-        for path in Path("/proc").glob("[0-9]*/stat"):
+        for process in children(self.running.pid):
             with contextlib.suppress(OSError):
-                state, parent, *_ = path.read_text(errors="replace").rpartition(")")[2].split()
-                if int(parent) == self.running.pid and state not in "ZX":
-                    words = words_of(path.parent.name)
-                    if words != own:  # else it is no program so far
-                        (keepers if b"--journal=" in words else readers).append(int(path.parent.name))
+                words = words_of(process)
+                if words != own:  # else it is no program so far
+                    (keepers if b"--journal=" in words else readers).append(process)
         return keepers, sorted(readers)
 
     def kill_keeper(self):

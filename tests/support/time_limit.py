@@ -5,13 +5,13 @@ import signal
 from pathlib import Path
 
 
-def children():
-    """The processes that this one has started and that have not ended."""
+def children(of=None):
+    """The processes that this one, or another, has started and that have not ended."""
     for path in Path("/proc").glob("[0-9]*/stat"):
         with contextlib.suppress(OSError):
             # the name of what runs stands in parentheses, and may have any letters
             state, parent, *_ = path.read_text(encoding="utf-8", errors="replace").rpartition(")")[2].split()
-            if int(parent) == os.getpid() and state != "Z":
+            if int(parent) == (of or os.getpid()) and state not in "ZX":
                 yield int(path.parent.name)
 
 
