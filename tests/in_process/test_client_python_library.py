@@ -14,8 +14,7 @@ class TestCalls:
         text = " ".join(Path(os.path.dirname(registryd.__file__), "..", "..", "c",
                              "registryd.h").read_text(encoding="utf-8").split())
         kinds = {"const char *": ctypes.c_char_p, "char *": ctypes.c_char_p, "const void *": ctypes.c_char_p,
-                 "void *": ctypes.c_char_p, "size_t ": ctypes.c_size_t,
-                 "size_t *": ctypes.POINTER(ctypes.c_size_t),
+                 "void *": ctypes.c_char_p, "size_t ": ctypes.c_size_t, "size_t *": ctypes.POINTER(ctypes.c_size_t),
                  "registryd_session ": ctypes.c_uint64, "registryd_session *": ctypes.POINTER(ctypes.c_uint64),
                  "struct registryd_stamp *": ctypes.POINTER(registryd.embedded.Stamp)}
         for name, takes in registryd.embedded.CALLS.items():

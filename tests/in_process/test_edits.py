@@ -13,35 +13,23 @@ import pytest
 from dev.edits import try_edits, try_rounds
 from dev.edits.edit_files import CRATES, EDITS, Edit, Function, changes, edits_of, functions_of, put_in_place
 from dev.edits.try_rounds import (
-    BAD,
-    BY_CLAUSE,
-    BY_NAME,
-    BY_PROOF,
-    NOT_REFUSED,
-    judged,
-    judged_alone,
-    listed,
-    try_in_rounds,
-)
+    BAD, BY_CLAUSE, BY_NAME, BY_PROOF, NOT_REFUSED, judged, judged_alone, listed, try_in_rounds)
 
 # An edit of a limit's number, which is refused by the law that says what it is.
 OF_A_LIMIT = "limits_in_numbers-"
 # How many each run of the tests tries.
 LISTED = 87
 # Errors as the prover words them: with values against what is wanted, and without.
-LATER = ("./proofs/a/late/Answers.antt:3:7: error: `returns`: `omega`: the "
-         "goal does not follow from what it read. All of that holds, and the goal "
-         "fails, at `length c.result.now` = 0")
-UNFIT = ("./proofs/a/late/Answers.antt:3:7: error: `returns-clause-good`: as "
-         "printed, the two types differ only where one has `c.args.line.causes.1`",
-         "  (expected), right after `IsGood`, and the other has " "`c.args.line.causes.0` (found)")
+LATER = ("./proofs/a/late/Answers.antt:3:7: error: `returns`: `omega`: the goal does not follow from what it read. "
+         "All of that holds, and the goal fails, at `length c.result.now` = 0")
+UNFIT = ("./proofs/a/late/Answers.antt:3:7: error: `returns-clause-good`: as printed, the two types differ only where "
+         "one has `c.args.line.causes.1`",
+         "  (expected), right after `IsGood`, and the other has `c.args.line.causes.0` (found)")
 GONE = "./proofs/a/late/Answers.antt:3:7: error: `returns`: record `G` has no field `in-Some`"
 OTHER = "./proofs/Lemmas.antt:3:7: error: `lemma`: as printed, the two types differ"
-IN_SOURCE = ("note: src/a.rt:12:1: it is not proved that what the function "
-             "ensures holds when it returns (`returns`); the facts known there allow "
-             "values at which this goal is false")
-UNPROVED = ("note: src/a.rt:22:1: it is not proved that what the function ensures holds "
-            "when it returns (`returns`); `search` gave up at one of its limits")
+RETURNS = "it is not proved that what the function ensures holds when it returns (`returns`);"
+IN_SOURCE = f"note: src/a.rt:12:1: {RETURNS} the facts known there allow values at which this goal is false"
+UNPROVED = f"note: src/a.rt:22:1: {RETURNS} `search` gave up at one of its limits"
 LATE, EARLY = Function("a::late", 20, 30), Function("a::Room::early", 10, 15)
 LATE_STANDS = "fn crate::a::late: depends on a hole in `a`"
 EARLY_STANDS = "fn crate::a::Room::early: no holes"

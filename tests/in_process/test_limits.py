@@ -7,7 +7,7 @@ from pathlib import Path
 from registry_cli import check_derivation, limits
 from registry_etcd import front
 from tests.support import lines_schema
-from tests.support.program import TOP
+from tests.support.program import TOP, data_rows, read
 
 ROW = re.compile(r"^\| ([^|]+) \| ([\d,]+) ([^|]+) \| \[`(\w+)`\]\(\.\./(crates/[\w/.]+)\) \| `(\w+)` \|$", re.M)
 # What the program's libraries export beside: how many requests are answered together, how much is read at once, the
@@ -18,10 +18,6 @@ ROW = re.compile(r"^\| ([^|]+) \| ([\d,]+) ([^|]+) \| \[`(\w+)`\]\(\.\./(crates/
 OTHERS = {"MOST_CONFLICTS", "THREAD", "BATCH_LIMIT", "READ_SIZE", "SEAT_LIMIT", "LOCK_BYTES", "ROOT",
           "FAR", "MOST_CHOICES", "MOST_NEEDS_IN_ONE_PASS", "NEEDS_ROOM"}
 MORE_THAN_A_PAIR = 2
-
-
-def read(path):
-    return Path(TOP, path).read_text(encoding="utf-8")
 
 
 def number(text):
@@ -73,16 +69,14 @@ class Limits(unittest.TestCase):
         wanted = {"/releases/maxItems": limits.MOST_VERSIONS, "/published/properties/needs/maxItems": limits.MOST_NEEDS,
                   "/learnt/properties/derivation/maxItems": limits.MOST_DERIVATION_LINES,
                   "/revision/maximum": limits.MOST_CELLS, "/place/maximum": limits.MOST_CELLS,
-                  "/seat/maximum": limits.MOST_FILES,
-                  "/version/maxLength": limits.MOST_VERSION_BYTES,
-                  "/requirement/maxLength": limits.MOST_REQUIREMENT_BYTES,
-                  "/number/maximum": 2 ** 32 - 1}
+                  "/seat/maximum": limits.MOST_FILES, "/version/maxLength": limits.MOST_VERSION_BYTES,
+                  "/requirement/maxLength": limits.MOST_REQUIREMENT_BYTES, "/number/maximum": 2 ** 32 - 1}
         assert dict(bounds(lines_schema.KINDS)) == wanted
         for name in ("name", "nameOrRequest"):
             assert "{0,%d}" % (limits.MOST_NAME_BYTES - 1) in lines_schema.KINDS[name]["pattern"]
 
     def test_each_place_that_states_a_limit_by_hand(self):
-        for row in read("tests/support/data/limits_stated.txt").splitlines()[1:]:
+        for row in data_rows("limits_stated.txt"):
             name, path, pattern = row.split(" ", 2)
             found = re.findall(pattern, read(path))
             assert found and {number(it) for it in found} == {getattr(limits, name)}, row

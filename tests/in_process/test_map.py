@@ -1,16 +1,11 @@
 """docs/MAP.md has each error, and docs/REGISTRY.md each by its number and name. `test_pages.py` follows its links."""
 import os
 import re
-from pathlib import Path
 
-from tests.support.program import TOP
+from tests.support.program import TOP, read
 
 MAP = os.path.join(TOP, "docs", "MAP.md")
 LINK = re.compile(r"\[`([^`]+)`\]\(([^)#]+)\)")
-
-
-def read(path):
-    return Path(path).read_text(encoding="utf-8")
 
 
 def declares(text, path, name):

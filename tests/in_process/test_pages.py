@@ -5,9 +5,8 @@ import re
 import unittest
 from pathlib import Path
 
-from tests.in_process.test_map import LINK, fault_of, read
-from tests.support import prose
-from tests.support.program import TOP
+from tests.in_process.test_map import LINK, fault_of
+from tests.support.program import TOP, read
 
 ALL = [str(it.relative_to(TOP)) for pattern in ("*.md", "docs/*.md", "clients/*.md", "clients/*/README.md", "rows/*.md")
        for it in sorted(Path(TOP).glob(pattern))]
@@ -15,13 +14,45 @@ ALL = [str(it.relative_to(TOP)) for pattern in ("*.md", "docs/*.md", "clients/*.
 FOREIGN = {"env_logger", "posix_fadvise", "proxy_half_close", "M_MMAP_THRESHOLD", "M_TRIM_THRESHOLD"}
 # What stands below a prefix once it is installed, of which `test_install.py` knows.
 INSTALLED = ("bin/", "include/", "lib/", "share/")
-SOURCES = (".rt", ".antt", ".py", ".rs", ".c", ".h", ".rows", ".json", ".txt", ".edit", ".toml", ".md", ".svg", "")
+SOURCES = (".rt", ".antt", ".py", ".rs", ".c", ".h", ".t",
+           ".rows", ".json", ".txt", ".edit", ".toml", ".md", ".svg", "")
 FOLDERS = ("crates", "tools", "clients", "bench", "dev", "registry_cli", "registry_etcd", "registry_service",
            "rows", "edits", "tests")
+CODE = re.compile(r"`([^`]*)`")
+ANY_LINK = re.compile(r"!?\[([^\]]*)\]\(([^)]*)\)")
+# a name with a capital behind its first letter, an underscore or a path, or an option; and the name of a file
+NAME = re.compile(r"-{0,2}[A-Za-z_]\w*(?:(?:::|-)\w+)*(?:\(\))?")
+FILE = re.compile(r"[\w./-]*\w\.(?:rt|antt|py|rs|c|h|rows|json|md|txt|svg|edit)")
 
 
-def page(name):
-    return read(os.path.join(TOP, name))
+def blocks_left_out(text):
+    """The lines of a page without its blocks of code, which are indented or fenced; in place of each an empty line."""
+    fenced = False
+    for line in text.splitlines():
+        is_fence = line.startswith("```")
+        fenced = fenced != is_fence
+        yield "" if fenced or is_fence or line.startswith("    ") else line
+
+
+def links(text):
+    """The targets of a page's links."""
+    return [target for _, target in ANY_LINK.findall("\n".join(blocks_left_out(text)))]
+
+
+def anchors_of(text):
+    """What a link can name of a page: its titles, in small letters, with `-` for spaces and without other marks."""
+    titles = [line.lstrip("# ") for line in blocks_left_out(text) if line.startswith("#")]
+    return {re.sub(r"[^\w -]", "", title.lower()).replace(" ", "-") for title in titles}
+
+
+def names(text):
+    """The names of sources that a page has in its prose: those of files, and those that no plain word looks like."""
+    for code in CODE.findall("\n".join(blocks_left_out(text))):
+        if FILE.fullmatch(code):
+            yield code
+        elif NAME.fullmatch(code) and (code.startswith("--") or "::" in code or "_" in code
+                                       or re.search("[a-z0-9][A-Z]|^[A-Z][a-z]", code)):
+            yield code.removesuffix("()")
 
 
 def sources():
@@ -56,7 +87,7 @@ class Known:
         self.all = set().union(*self.words.values())
 
     def has(self, name):
-        if prose.FILE.fullmatch(name):
+        if FILE.fullmatch(name):
             return name.startswith(INSTALLED) or re.sub(r"^(?:\./|\.\./)*", "", name) in self.files
         if name in FOREIGN:
             return True
@@ -67,12 +98,12 @@ class Known:
 
 
 def unknown(text, known):
-    return [it for it in dict.fromkeys(prose.names(text)) if not known.has(it)]
+    return [it for it in dict.fromkeys(names(text)) if not known.has(it)]
 
 
 def lost(text, folder, anchors):
     """The links of a page that lead nowhere: to no file, or to no title of one of these pages."""
-    for target in prose.links(text):
+    for target in links(text):
         path, _, part = target.partition("#")
         if "://" in target or target.startswith("mailto:"):
             continue
@@ -87,7 +118,7 @@ def undeclared(text):
     """What is wrong with the links from names to the files that declare them, and from the names of files."""
     found = [fault_of(link) for link in LINK.findall(text)
              if link[1].startswith("../crates/") or link[1].startswith("../") and link[1].endswith(".py")]
-    misnamed = [f"{name} is {target}" for name, target in prose.LINK.findall(text) if prose.FILE.fullmatch(name)
+    misnamed = [f"{name} is {target}" for name, target in ANY_LINK.findall(text) if FILE.fullmatch(name)
                 and not f"/{target}".partition("#")[0].endswith(f"/{name}")]
     return [fault for fault in found if fault] + misnamed
 
@@ -118,14 +149,14 @@ class Pages(unittest.TestCase):
     def each(self, found):
         for name in ALL:
             with self.subTest(name):
-                assert list(found(name, page(name))) == []
+                assert list(found(name, read(name))) == []
 
     def test_each_name_is_in_the_sources(self):
         self.each(lambda name, text: unknown(text, self.known))
-        assert sum(len({*prose.names(page(name))}) for name in ALL) > 150
+        assert sum(len({*names(read(name))}) for name in ALL) > 150
 
     def test_each_link_leads_somewhere(self):
-        anchors = {name: prose.anchors(page(name)) for name in ALL}
+        anchors = {name: anchors_of(read(name)) for name in ALL}
         self.each(lambda name, text: lost(text, os.path.dirname(name), {**anchors, "": anchors[name]}))
 
     def test_each_name_is_declared_where_its_link_leads(self):
@@ -147,12 +178,12 @@ def test_what_is_wrong_with_a_page_is_found():
     right = ["read_request", "wire::read_request", "Seat::enter", "MOST_X", "limits.py", "--with-it",
              "README.md", "needs"]
     assert unknown(" ".join(f"`{name}`" for name in [*right, *wrong]), known) == wrong
-    anchors = {"": prose.anchors("# Own title\n"), "docs/FORMATS.md": prose.anchors("## The journal's file\n")}
+    anchors = {"": anchors_of("# Own title\n"), "docs/FORMATS.md": anchors_of("## The journal's file\n")}
     wrong = ["#other", "FORMATS.md#the-journal", "FORMAT.md", "../crates/none"]
     right = ["#own-title", "FORMATS.md#the-journals-file", "../README.md", "https://example.org/x"]
     assert list(lost(" ".join(f"[a]({target})" for target in [*right, *wrong]), "docs", anchors)) == wrong
     row = "../crates/chronicle/src/row.rt"
-    assert undeclared(f"[`Row::open`]({row}) [`row.rt`]({row}) [`read`](../tests/in_process/test_map.py)") == []
+    assert undeclared(f"[`Row::open`]({row}) [`row.rt`]({row}) [`declares`](../tests/in_process/test_map.py)") == []
     for link in (f"[`Row::close`]({row})", f"[`seat.rt`]({row})", "[`Row`](../crates/chronicle/src/rows.rt)"):
         assert len(undeclared(link)) == 1, link
 

@@ -1,21 +1,22 @@
 """What docs/THEOREMS.md and docs/MAP.md promise of a call is promised of a call that is made: by the program, by the
-example `team`, or by who uses one of the calls that docs/USING.md lists."""
+example `team`, or by who uses one of the calls that docs/USING.md lists.
+
+Each call without a table of rows is one whose contract says all of it: the clauses that are named stand at the call,
+and a program makes the call, so that its lines and `test_memory.py` show that it answers where there is memory, and
+gives up where there is none."""
 import re
 import unittest
-from pathlib import Path
 
-from tests.support.program import TOP
+from tests.support.program import TOP, read
+from tests.support.public_calls import clauses, said_by_clauses, that_take_memory
 from tests.support.source_calls import Sources, sources_below
 
 ENTRY = re.compile(r"\[`([^`]+)`\]\(\.\./crates/([^)#]+\.rt)\)")
 NAME = re.compile(r"`((?:[A-Z]\w*::)?\w+)`")
 # no program stands on these
 OF_TESTS = ("probe", "rows")
+# the program, and the example that the probe runs
 BEGINNINGS = {("registryd/src/main.rt", "main"), ("probe/src/team.rt", "run")}
-
-
-def page(name):
-    return Path(TOP, "docs", name).read_text(encoding="utf-8")
 
 
 def entries(using, sources):
@@ -24,9 +25,9 @@ def entries(using, sources):
     return {one for name, path in ENTRY.findall(table) for one in sources.find(name) if one.path == path}
 
 
-def roots(using, sources):
-    """Where calls begin: the program, the example, and each call that the page lists."""
-    return {one for one in sources.calls if (one.path, one.name) in BEGINNINGS} | entries(using, sources)
+def made(sources, *more):
+    """What calls come to that begin in the program, in the example, or here."""
+    return sources.reached({one for one in sources.calls if (one.path, one.name) in BEGINNINGS}.union(*more))
 
 
 def named(text, sources):
@@ -39,7 +40,7 @@ def named(text, sources):
 
 def unreached(text, using, sources):
     """What a page names and no call comes to."""
-    reached = sources.reached(roots(using, sources))
+    reached = made(sources, entries(using, sources))
     return [name for name, found in named(text, sources) if not found & reached]
 
 
@@ -48,13 +49,13 @@ class Reach(unittest.TestCase):
     def setUpClass(cls):
         cls.texts = sources_below(TOP)
         cls.sources = Sources(cls.texts)
-        cls.using = page("USING.md")
+        cls.using = read("docs", "USING.md")
 
     def test_each_call_that_the_pages_name_is_made(self):
         for name in ("THEOREMS.md", "MAP.md"):
             with self.subTest(name):
-                assert unreached(page(name), self.using, self.sources) == []
-                assert len(list(named(page(name), self.sources))) > 60
+                assert unreached(read("docs", name), self.using, self.sources) == []
+                assert len(list(named(read("docs", name), self.sources))) > 60
 
     def test_a_call_that_is_taken_out_is_missed(self):
         """Each of these is called in one file alone."""
@@ -64,3 +65,16 @@ class Reach(unittest.TestCase):
                 text, count = re.subn(rf"\b{call}\(", f"not_{call}(", self.texts[path])
                 assert count > 0
                 assert unreached(f"`{call}`", "", Sources(self.texts | {path: text})) == [call]
+
+    def test_each_clause_stands_at_its_call(self):
+        there = clauses()
+        for name, said in said_by_clauses():
+            with self.subTest(name):
+                assert said
+                assert set(said) <= there[name]
+
+    def test_the_list_is_in_order_and_has_calls_that_take_memory_and_are_made(self):
+        names = [name for name, _ in said_by_clauses()]
+        assert names == sorted(set(names))
+        assert set(names) <= that_take_memory()
+        assert set(names) <= {one.full_name for one in made(self.sources)}

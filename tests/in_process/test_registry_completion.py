@@ -5,17 +5,15 @@ import os
 import shlex
 import tempfile
 import unittest
-from pathlib import Path
 from types import SimpleNamespace
 from unittest import mock
 
 from registry_cli import completion, line_completion, refusals, session
 from registry_cli.failures import Failed
-from tests.support.program import TOP
+from tests.support.program import data_rows
 
 PACKAGES = {"log": ["1.0.0", "1.1.0"], "lock": ["2.0.0"], "app": ["1.0.0"]}
-
-OFFERED = Path(TOP, "tests/support/data/words_offered.txt").read_text(encoding="utf-8").splitlines()[1:]
+OFFERED = data_rows("words_offered.txt")
 
 
 def published(_, name):

@@ -2,12 +2,11 @@
 variables against the modules that have them and the pages of docs."""
 import re
 import signal
-from pathlib import Path
 from unittest import mock
 
 from registry_cli import failures, manual, program, session
 from registry_cli.table import FILE, NEED, PACKAGE, Subcommand, Word, flag, option, word
-from tests.support.program import TOP
+from tests.support.program import read
 
 SMALL = (
     Subcommand("list", "listing", "List ~all", (), ("registry list",)),
@@ -19,7 +18,7 @@ SMALL = (
                                                       flag("--yes", "no question")),
                ("registry journal cut `x`", ".cut -a"), "It's short."),
 )
-PAGE = Path(TOP, "tests/support/data/small_manual.1").read_text(encoding="utf-8")
+PAGE = read("tests/support/data/small_manual.1")
 
 
 class TestPage:
@@ -49,6 +48,5 @@ class TestSaid:
 
     def rows(self, head):
         """What stands first in the rows of a table of docs/REGISTRY_COMMAND.md."""
-        table = Path(TOP, "docs",
-                     "REGISTRY_COMMAND.md").read_text(encoding="utf-8").partition(f"| {head} |")[2].partition("\n\n")[0]
+        table = read("docs/REGISTRY_COMMAND.md").partition(f"| {head} |")[2].partition("\n\n")[0]
         return {part for row in table.splitlines()[2:] for part in re.split(", ", row.split(" | ")[0].lstrip("| "))}

@@ -1,10 +1,9 @@
 """What `registry` says of a refusal by number, and of what there is instead: each sentence, worked by hand."""
 import json
 import re
-from pathlib import Path
 
 from registry_cli.refusals import english, there_are, unmatched, unpublished, versions_told
-from tests.support.program import TOP
+from tests.support.program import data_rows
 
 PACKAGES = {"serde": [["1.0.0", False], ["1.10.0", False], ["1.9.0", True], ["1.2.0", False], ["0.9.0", False]],
             "old": [["1.0.0", True]], "log": [["0.4.0", False]]}
@@ -12,7 +11,7 @@ PACKAGES = {"serde": [["1.0.0", False], ["1.10.0", False], ["1.9.0", True], ["1.
 
 class TestRefusals:
     def test_each_number(self):
-        rows = Path(TOP, "tests/support/data/refusals_said.txt").read_text(encoding="utf-8").splitlines()[1:]
+        rows = data_rows("refusals_said.txt")
         for number, request, said in (re.fullmatch("([0-9]+) (.*) => (.*)", row).groups() for row in rows):
             # what is published is not asked for
             assert english(json.loads(request), {"error": int(number), "name": "BadLine"}, None) == said

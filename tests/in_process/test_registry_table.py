@@ -1,18 +1,16 @@
 """The table of subcommands and what reads words by it, in one process: which values words have, the edges of numbers,
 and what comes before a subcommand."""
 import json
-from pathlib import Path
 
 import pytest
 
 from registry_cli import command_line, parsing
 from registry_cli.failures import Usage
 from registry_cli.table import SUBCOMMANDS
-from tests.support.program import TOP
+from tests.support.program import data_rows
 
 NONE = {"journal": None, "connect": None, "json": False, "color": None, "quiet": False, "verbose": False}
-READ = Path(TOP, "tests/support/data/words_read.txt").read_text(encoding="utf-8").splitlines()[1:]
-EDGES = Path(TOP, "tests/support/data/words_edges.txt").read_text(encoding="utf-8").splitlines()[1:]
+READ, EDGES = data_rows("words_read.txt"), data_rows("words_edges.txt")
 
 
 def read(line):

@@ -1,12 +1,10 @@
 """What docs/THEOREMS.md shows of the sources under "What an answer is" stands there word for word."""
-import os
 import re
 import textwrap
 import unittest
 from pathlib import Path
 
-from tests.in_process.test_map import read
-from tests.support.program import TOP
+from tests.support.program import TOP, read
 
 SHOWN = {"Answer", "IsAnswer", "IsNewest", "AreBest", "IsTurn", "one_answer", "OneAnswer", "some_answer", "SomeAnswer"}
 TITLE = "## What an answer is"
@@ -33,7 +31,7 @@ def name_of(block):
 class Theorems(unittest.TestCase):
     @classmethod
     def setUpClass(cls):
-        cls.blocks = shown(read(os.path.join(TOP, "docs", "THEOREMS.md")))
+        cls.blocks = shown(read("docs", "THEOREMS.md"))
         crate = Path(TOP, "crates", "walk")
         cls.texts = [read(path) for path in (*crate.glob("specs/*.antt"), *crate.glob("src/*.rt"))]
 

@@ -1,15 +1,8 @@
 """The number of a version stands in the file VERSION; each other place that states it has the same."""
 import re
-
 import tomllib
-from pathlib import Path
 
-from tests.support.program import TOP
-
-
-def read(*name):
-    return Path(TOP, *name).read_text(encoding="utf-8")
-
+from tests.support.program import read
 
 VERSION = read("VERSION")
 # what Keep a Changelog has above the changes of a version

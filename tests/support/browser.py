@@ -14,9 +14,8 @@ import time
 
 COMMAND = "chromium"
 PATIENCE = 60  # seconds in which whatever is waited for comes, on a busy machine too
-FLAGS = ["--headless=new", "--remote-debugging-pipe", "--no-first-run", "--disable-gpu",
-         "--disable-dev-shm-usage", "--disable-extensions",
-         "--disable-background-networking", "--disable-component-update", "--disable-sync",
+FLAGS = ["--headless=new", "--remote-debugging-pipe", "--no-first-run", "--disable-gpu", "--disable-dev-shm-usage",
+         "--disable-extensions", "--disable-background-networking", "--disable-component-update", "--disable-sync",
          "--hide-scrollbars", "--force-color-profile=srgb"]
 KEYS = {"Enter": 13, "Escape": 27, "Tab": 9, "Backspace": 8, "ArrowDown": 40, "ArrowUp": 38,
         "ArrowLeft": 37, "ArrowRight": 39}

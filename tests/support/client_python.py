@@ -8,18 +8,13 @@ import unittest
 
 from registryd import Ended, Line, Registry, Resolve
 from tests.support import registry_folder
-from tests.support.program import PATIENCE, TOP, in_time
+from tests.support.program import PATIENCE, TOP, in_time, read
 
 SECONDS = PATIENCE  # that nothing here may take
 PYTHON = {**os.environ, "PYTHONPATH": os.path.join(TOP, "clients", "python")}
 SOON = 45  # seconds in which it is over, on a busy machine too, where a search would go on
 PLACES, BIRDS = registry_folder.pigeons(15)
 HOPELESS = Resolve({bird: "*" for bird in BIRDS})
-
-
-def read(name):
-    with open(os.path.join(TOP, name), encoding="utf-8") as text:
-        return text.read()
 
 
 def blocks(name):

@@ -1,17 +1,5 @@
-"""Reads tables of command lines: words of the program, and what becomes of a run with each of them.
-
-    # title: what the table shows. Source: where that comes from. file NAME LINE     for the words of this table there
-    is a file of this line, which may be empty; of several, where more name it $ WORDS            the words behind the
-    program's name; several of these in a row end in the same way break CALL N HOW   the Nth call of a function of the C
-    library fails, by an error's name, or is `short`: of one byte break CALL N/K HOW the same of each Kth call from
-    there on room N             standard output takes so many bytes, and then fails input LINE         a line of
-    standard input, which else is empty output LINE        a line of standard output: all of them, in order, or as much
-    of them as there is room for has TEXT           a part of standard output, of which the rest is left open; without
-    either there is none status N           the exit status error LINE         a line on standard error, which else is
-    empty says TEXT          a part of what stands before these lines there, which is left open else; without it nothing
-    does left NAME LINE     a line of a file that is there then: all of them, in order none NAME          no such file
-    is there then
-"""
+"""Reads tables of command lines: words of the program, and what becomes of a run with each of them. rows/README.md says
+how they are written."""
 from tests.support.preloaded import Break
 
 PARTS = ("break", "room", "input", "output", "has", "status", "error", "says", "left", "none")

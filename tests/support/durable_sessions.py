@@ -115,8 +115,7 @@ class Watched:
         # each line goes behind the others, whoever writes it
         log = os.open(f"/proc/self/fd/{self.log.fileno()}", os.O_WRONLY | os.O_APPEND)
         env = {**os.environ, "LD_PRELOAD": " ".join([*before, library]), "WATCH_TO": str(log), "WATCH_KILL": str(kill),
-               "WATCH_SIDE": side,
-               "WATCH_SIGNAL": str(int(number))}
+               "WATCH_SIDE": side, "WATCH_SIGNAL": str(int(number))}
         try:
             self.client = Client(words, env=env, pass_fds=[log], cwd=folder)
         finally:

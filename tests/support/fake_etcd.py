@@ -108,8 +108,7 @@ class SmallEtcd:
     def answer(self, path, asked):
         calls = {"/v3/kv/range": self.range, "/v3/kv/put": lambda it: self.write([("request_put", it)])[0],
                  "/v3/kv/txn": self.transact, "/v3/kv/compaction": self.compact,
-                 "/v3/maintenance/defragment": self.defragment,
-                 "/v3/maintenance/alarm": self.alarm}
+                 "/v3/maintenance/defragment": self.defragment, "/v3/maintenance/alarm": self.alarm}
         with self.changed:
             if self.has_no_room(path, asked):
                 return 429, {"error": "etcdserver: mvcc: database space exceeded", "code": 8}

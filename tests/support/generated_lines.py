@@ -235,14 +235,12 @@ def a_megabyte_of_needs():
             yield line, f'{{"error":{number},"name":"{name}","revision":0}}'
 
 
-SESSIONS = [
-    lines_at_the_limit_of_their_length, values_in_one_another, needs_past_the_most_of_a_publication,
-    needs_past_the_most_of_a_request, a_selection_longer_than_the_room_of_replies,
-    the_most_versions_and_dependencies, the_most_names_of_packages,
-    the_most_commands_of_a_session, budgets_in_other_words, texts_at_the_limits_of_their_lengths, a_chain_of_packages,
-    a_chain_that_is_searched, a_conflict_that_goes_back_over_many_decisions, a_megabyte_of_needs,
-    what_many_versions_have_in_common_waits_for_no_decision,
-]
+SESSIONS = [lines_at_the_limit_of_their_length, values_in_one_another, needs_past_the_most_of_a_publication,
+            needs_past_the_most_of_a_request, a_selection_longer_than_the_room_of_replies,
+            the_most_versions_and_dependencies, the_most_names_of_packages, the_most_commands_of_a_session,
+            budgets_in_other_words, texts_at_the_limits_of_their_lengths, a_chain_of_packages, a_chain_that_is_searched,
+            a_conflict_that_goes_back_over_many_decisions, a_megabyte_of_needs,
+            what_many_versions_have_in_common_waits_for_no_decision]
 
 
 def sessions():

@@ -36,6 +36,10 @@ def published(*versions):
     return entered(publish(name, version, needs) for name, version, *needs in versions)
 
 
+def premise(package, target, within):
+    return {"package": package, "versions": [0], "target": target, "need": "^1.0.0", "within": within}
+
+
 # for so many requirements of a package the matching sets are kept: those that were named first
 KEPT_SETS = 128
 PATCHES = 70

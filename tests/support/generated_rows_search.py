@@ -5,20 +5,16 @@ A table is a title and its rows; a row's member `gives` is what the call is want
 its member `by` is to give of that."""
 from registry_cli.limits import MOST_DERIVATION_LINES as MOST
 from registry_cli.limits import MOST_OFFERED_LINES
-from tests.support.generated_rows import KEPT_SETS, entered, pairs, published, row, tables
+from tests.support.generated_rows import KEPT_SETS, entered, pairs, premise, published, row, tables
 from tests.support.program import publish
 from tests.support.registry_folder import pigeons
 
 
 # ---- what is learnt
 
-def _premise(package, target, within):
-    return {"package": package, "versions": [0], "target": target, "need": "^1.0.0", "within": within}
-
-
 def _line(conclusion):
     """A line from two premises, that version 0 of package 1 needs 2, and version 0 of that needs 3."""
-    return {"conclusion": conclusion, "causes": [_premise(1, 2, [0]), _premise(2, 3, [0])], "pivot": 2}
+    return {"conclusion": conclusion, "causes": [premise(1, 2, [0]), premise(2, 3, [0])], "pivot": 2}
 
 
 @tables

@@ -3,7 +3,7 @@
 A table is a title and its rows; a row's member `gives` is what the call is wanted to answer. What was learnt is stored
 by a seat."""
 from registry_cli.limits import MOST_STORED
-from tests.support.generated_rows import pairs, row, tables
+from tests.support.generated_rows import pairs, premise, row, tables
 
 
 class Steps:
@@ -32,21 +32,17 @@ class Steps:
         return [row("chronicle", "steps", self.gives, capacity=8192, seats=[1, 2], steps=self.steps)]
 
 
-def _premise(package, target, within):
-    return {"package": package, "versions": [0], "target": target, "need": "^1.0.0", "within": within}
-
-
 def _line(*within):
     """That a needs b, and b needs c: b is package 2 and c is package 3."""
     return {"conclusion": [[1, {"in": [0]}], [3, {"not": list(within)}]],
-            "causes": [_premise(1, 2, [0]), _premise(2, 3, list(within))], "pivot": 2}
+            "causes": [premise(1, 2, [0]), premise(2, 3, list(within))], "pivot": 2}
 
 
 def _own_line(k, *within):
     """A member that rests on a package of its own, 2k + 5, which package 2k + 4 needs."""
-    premise = _premise(2 * k + 4, 2 * k + 5, list(within))
+    fact = premise(2 * k + 4, 2 * k + 5, list(within))
     conclusion = [[2 * k + 4, {"in": [0]}], [2 * k + 5, {"not": list(within)}]]
-    return {"conclusion": conclusion, "causes": [premise, premise], "pivot": 2 * k + 5}
+    return {"conclusion": conclusion, "causes": [fact, fact], "pivot": 2 * k + 5}
 
 
 def _chain():

@@ -2,18 +2,11 @@
 and a judge of values by them."""
 import functools
 import json
-import os
 from importlib.util import find_spec
 
-DOCS = os.path.join(os.path.dirname(os.path.abspath(__file__)), "..", "..", "docs")
+from tests.support.program import read
 
-
-def read(name):
-    with open(os.path.join(DOCS, name), encoding="utf-8") as text:
-        return json.load(text)
-
-
-SAID, ANSWERS = read("lines.schema.json"), read("registry.schema.json")
+SAID, ANSWERS = (json.loads(read("docs", name)) for name in ("lines.schema.json", "registry.schema.json"))
 KINDS = SAID["$defs"]
 ALL = {**KINDS, **ANSWERS["$defs"]}  # none has a name of the other's
 

@@ -10,21 +10,17 @@ from registry_cli.limits import (
 NAMES = ["a", "b", "c", "d", "e-1"]
 VERSIONS = ["1.0.0", "1.1.0", "1.2.3", "2.0.0", "2.0.0-rc.1", "0.3.1", "0.0.7", "1.0.0-alpha.1", "2.1.0+build.5"]
 REQUIREMENTS = ["*", "^1", "^1.0.0", "^2.0.0", "=1.1.0", ">=1.1.0", "<2.0.0", ">=1.0.0, <2.0.0", "~1.0", "1.2.*",
-                "^0.3", ">2", "x",
-                "^2.0.0-rc.1", "1", "~1.2.3", "=2", "<=1.2, >0.3", ">=0.0.7"]
+                "^0.3", ">2", "x", "^2.0.0-rc.1", "1", "~1.2.3", "=2", "<=1.2, >0.3", ">=0.0.7"]
 TEXTS = ["", "A", "9a", "a.b", "a" * MOST_NAME_BYTES, "a" * (MOST_NAME_BYTES + 1), "zed", "é", "a\u0000", "\ufeffa",
-         "1.0", "01.0.0", "1.0.0-", "1.0.0-01", "1.0.0+", "1.0.0+01",
-         "18446744073709551615.0.0", "18446744073709551616.0.0", "1.0.0-" + "9" * 40,
-         "1.0.0+".ljust(MOST_VERSION_BYTES, "b"), "1.0.0+".ljust(MOST_VERSION_BYTES + 1, "b"),
-         "1.0.0-alpha..1", " 1.0.0", "1.0.0 ", "v1.0.0", "", "^", ">=", "1,", ",1", "1 2", "1.0.0.0", "*, 1", "1.*.*",
-         "1.*.2", "^*", "> 1",
-         "=1.x", ", ".join(["^1"] * 32), ", ".join(["^1"] * 33), "^1".ljust(MOST_REQUIREMENT_BYTES),
-         "^1".ljust(MOST_REQUIREMENT_BYTES + 1), "\u0661.0.0", "^\u0661", "1.0.0-\u0661",
-         "publish", "learn", "list", "check", "null", "\U0001f600", "x" * 3000]
+         "1.0", "01.0.0", "1.0.0-", "1.0.0-01", "1.0.0+", "1.0.0+01", "18446744073709551615.0.0",
+         "18446744073709551616.0.0", "1.0.0-" + "9" * 40, "1.0.0+".ljust(MOST_VERSION_BYTES, "b"),
+         "1.0.0+".ljust(MOST_VERSION_BYTES + 1, "b"), "1.0.0-alpha..1", " 1.0.0", "1.0.0 ", "v1.0.0", "", "^", ">=",
+         "1,", ",1", "1 2", "1.0.0.0", "*, 1", "1.*.*", "1.*.2", "^*", "> 1", "=1.x", ", ".join(["^1"] * 32),
+         ", ".join(["^1"] * 33), "^1".ljust(MOST_REQUIREMENT_BYTES), "^1".ljust(MOST_REQUIREMENT_BYTES + 1),
+         "\u0661.0.0", "^\u0661", "1.0.0-\u0661", "publish", "learn", "list", "check", "null", "\U0001f600", "x" * 3000]
 NUMBERS = ["0", "1", "2", "16", "-1", "-0", "0.0", "1.0", "1e0", "1E0", "4294967295", "4294967296",
-           "18446744073709551615", "18446744073709551616",
-           "1e308", "1e309", "-1e400", "1e-400", "00", "01", "+1", ".5", "1.", "0x10", "NaN", "Infinity", "-Infinity",
-           "9" * 400, "1" + "0" * 30]
+           "18446744073709551615", "18446744073709551616", "1e308", "1e309", "-1e400", "1e-400", "00", "01", "+1", ".5",
+           "1.", "0x10", "NaN", "Infinity", "-Infinity", "9" * 400, "1" + "0" * 30]
 TOKEN = re.compile(r'"(?:[^"\\]|\\.)*"|[\[\]{},:]|[^\s\[\]{},:"]+|\s+')
 
 
@@ -34,6 +30,17 @@ class Raw(str):
 
 class Twice(list):
     """Members of an object that may name one twice."""
+
+
+def places(rows):
+    """All that may be another in a derivation: its kind, what holds it, and its key there."""
+    for row in rows:
+        yield from ((key, row, key) for key in ("pivot", "conclusion", "causes"))
+        for term in row["conclusion"]:
+            yield from ((kind, term, place) for place, kind in enumerate(("package", "sign", "ordinals")))
+        for place, cause in enumerate(row["causes"]):
+            yield "cause", row["causes"], place
+            yield from ((key, cause, key) for key in cause if key != "fact")
 
 
 class Maker:
@@ -113,48 +120,25 @@ class Maker:
     def near(self, rows):
         """A derivation that differs in one place, and is of its form."""
         rows = json.loads(json.dumps(rows))
-        row, kind = self.rng.choice(rows), self.rng.random()
-        if kind < 0.15:
-            row["pivot"] = self.rng.choice(["", *NAMES])
-        elif kind < 0.25:
-            row["causes"].reverse()
-        elif kind < 0.4:
-            row["causes"][self.rng.randrange(2)] = self.cause()
-        elif kind < 0.45:
-            rows.insert(self.rng.randrange(len(rows) + 1), row)
-        elif kind < 0.5:
-            del rows[self.rng.randrange(len(rows))]
-        elif kind < 0.75 and row["conclusion"]:
-            self.near_terms(row["conclusion"])
+        if self.rng.random() < 0.1:
+            place = self.rng.randrange(len(rows))
+            rows[place:place + 1] = self.rng.choice([[], [rows[place], rows[place]]])
         else:
-            self.near_cause(self.rng.choice(row["causes"]))
+            kind, holder, key = self.rng.choice(list(places(rows)))
+            holder[key] = self.near_value(kind, holder[key])
         return rows
 
-    def near_terms(self, terms):
-        term, kind = self.rng.choice(terms), self.rng.random()
-        if kind < 0.3:
-            term[1] = not term[1]
-        elif kind < 0.6:
-            term[2] = self.near_set(term[2])
-        elif kind < 0.7:
-            term[0] = self.rng.choice(["", *NAMES])
-        elif kind < 0.8:
-            terms.remove(term)
-        elif kind < 0.9:
-            terms.append([self.rng.choice(["", *NAMES]), self.rng.random() < 0.5, self.ordinals()])
-        else:
-            terms.reverse()
-
-    def near_cause(self, cause):
-        key = self.rng.choice([it for it in cause if it != "fact"] or [None])
-        if key in ("versions", "within"):
-            cause[key] = self.near_set(cause[key])
-        elif key in ("line", "index"):
-            cause[key] = self.rng.choice([max(0, cause[key] - 1), cause[key] + 1, 0, 4294967295])
-        elif key in ("name", "target"):
-            cause[key] = self.rng.choice(NAMES)
-        elif key == "need":
-            cause[key] = self.rng.choice(REQUIREMENTS)
+    def near_value(self, kind, old):
+        if kind in ("versions", "within", "ordinals"):
+            return self.near_set(old)
+        if kind == "conclusion":
+            more = [self.rng.choice(["", *NAMES]), self.rng.random() < 0.5, self.ordinals()]
+            return self.rng.choice([old[1:], old[:-1], old[::-1], [*old, more]])
+        if kind in ("line", "index"):
+            return self.rng.choice([max(0, old - 1), old + 1, 0, 4294967295])
+        others = {"causes": lambda: [old[::-1]], "cause": lambda: [self.cause()], "sign": lambda: [not old],
+                  "need": lambda: REQUIREMENTS, "pivot": lambda: ["", *NAMES], "package": lambda: ["", *NAMES]}
+        return self.rng.choice(others.get(kind, lambda: NAMES)())
 
     def near_set(self, ordinals):
         if self.rng.random() < 0.05:

@@ -1,5 +1,6 @@
 """Which selections meet a request, found by trying everything: the rules of selections and of
 requirements in plain Python that shares nothing with the program."""
+import operator
 import re
 from functools import lru_cache
 from itertools import product
@@ -7,6 +8,7 @@ from itertools import product
 from tests.support.reference import precedence
 
 COMPARATOR = re.compile(r"\s*(\^|=|>=|<=|>|<|~)?\s*(\d+)\.(\d+)\.(\d+)(?:-([0-9A-Za-z.-]+))?\s*")
+COMPARES = {"=": operator.eq, ">": operator.gt, ">=": operator.ge, "<": operator.lt, "<=": operator.le}
 
 
 def pre_key(pre):
@@ -25,16 +27,8 @@ def key(version):
 
 def compares(op, bound, version):
     """Whether a version passes one comparator with a full version behind its operator."""
-    if op == "=":
-        return version == bound
-    if op == ">":
-        return version > bound
-    if op == ">=":
-        return version >= bound
-    if op == "<":
-        return version < bound
-    if op == "<=":
-        return version <= bound
+    if op in COMPARES:
+        return COMPARES[op](version, bound)
     # a caret keeps the first number that is not zero, a tilde the first two
     kept = 2 if op == "~" else 1 if bound[0] else 2 if bound[1] else 3
     return version[:kept] == bound[:kept] and version >= bound

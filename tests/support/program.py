@@ -9,6 +9,7 @@ import signal
 import subprocess
 import tempfile
 import unittest
+from pathlib import Path
 
 from dev.building.programs import path_for_tests
 from registry_cli import tied
@@ -23,6 +24,16 @@ SERVE = ["serve", "--workers", "1"]
 PATIENCE = 60
 # The least that a pipe holds.
 PAGE = 4_096
+
+
+def read(*names):
+    """The text of a file of the repository."""
+    return Path(TOP, *names).read_text(encoding="utf-8")
+
+
+def data_rows(name):
+    """The rows of a file of `tests/support/data`, without its comments."""
+    return [row for row in read("tests", "support", "data", name).splitlines() if not row.startswith("#")]
 
 
 def skip_without(command, packages):

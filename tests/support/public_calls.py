@@ -1,10 +1,12 @@
-"""The public calls of the crates that take memory, as their sources declare them."""
-import glob
-import os
+"""The public calls of the crates, as their sources declare them: which take memory, and what their contracts say."""
 import re
+from collections import defaultdict
+from pathlib import Path
 
-from tests.support.program import TOP
+from tests.support.program import TOP, data_rows, read
+from tests.support.source_calls import blocks, functions_of
 
+CRATES = Path(TOP, "crates")
 # These answer a refusal and take no memory.
 TAKES_NONE = {"registry::Registry::check", "store::Store::check", "book::Replica::check", "book::Replica::judge"}
 # A race makes this one, and each of its requests is refused there (`test_memory.py`).
@@ -19,74 +21,54 @@ TAKES_MEMORY = re.compile(r"-> (?:io::)?Result<")
 
 
 def libraries():
-    """The libraries of the product."""
-    for path in sorted(glob.glob(os.path.join(TOP, "crates", "*", "src", "lib.rt"))):
-        name = path.split(os.sep)[-3]
-        if name not in NO_PART:
-            yield name
+    """The crates of which others use what they export."""
+    return sorted(path.parts[-3] for path in CRATES.glob("*/src/lib.rt"))
 
 
 def exported(crate):
-    """The names that a crate exports."""
-    with open(os.path.join(TOP, "crates", crate, "src", "lib.rt"), encoding="utf-8") as text:
-        uses = re.findall(r"pub use ([^;]*);", text.read())
-    return set(re.findall(r"\w+", " ".join(uses)))
+    """The names that a library lets others use."""
+    uses = re.findall("^pub use ([^;]*);", read("crates", crate, "src", "lib.rt"), re.M)
+    return {name for words in uses for name in re.findall(r"\w+", words)}
 
 
-def declared(text):
-    """Each public function of a source, and each `clone`: its type, or none, its name, and its head."""
-    of = None
-    lines = text.split("\n")
-    for at, line in enumerate(lines):
-        opens = re.match(r"impl(?:<[^>]*>)? (?:\w+(?:<[^>]*>)? for )?(\w+)", line)
-        of = opens[1] if opens else None if line.startswith("}") else of
-        named = re.match(r"( *)(?:pub (?:const )?fn (?=\w)|fn (?=clone\b))(\w+)", line)
-        if named:
-            head = []
-            for more in lines[at:]:
-                if re.match(r" *(requires|ensures)", more):
-                    break
-                head.append(more)
-                if more.rstrip().endswith("{"):
-                    break
-            yield of if named[1] else None, named[2], " ".join(" ".join(head).split())
+def texts_of(crate):
+    """The sources of a crate, each with its path."""
+    for path in sorted(CRATES.joinpath(crate, "src").rglob("*.rt")):
+        yield str(path.relative_to(CRATES)), path.read_text(encoding="utf-8")
+
+
+def public(crate):
+    """Each public function of a crate and each `clone`, with the text from its name on."""
+    for path, text in texts_of(crate):
+        for function, body in functions_of(path, text):
+            if function.is_public or function.name == "clone":
+                yield function, body
 
 
 def that_take_memory():
     """The full names of the public functions whose result tells of lack of memory."""
     found = set()
-    for crate in libraries():
+    for crate in set(libraries()) - NO_PART:
         names = exported(crate)
-        for path in glob.glob(os.path.join(TOP, "crates", crate, "src", "**", "*.rt"), recursive=True):
-            with open(path, encoding="utf-8") as text:
-                for of, name, head in declared(text.read()):
-                    if (of or name) in names and TAKES_MEMORY.search(head):
-                        found.add("::".join(part for part in (crate, of, name) if part))
+        found |= {it.full_name for it, body in public(crate) if (it.owner or it.name) in names
+                  and TAKES_MEMORY.search(re.split(r"\n *(?:requires|ensures)\b|\{\n", body, maxsplit=1)[0])}
     return found - TAKES_NONE - OF_RACES - OF_CALLERS
 
 
-def clauses_of(text):
-    """The clauses of each public function of a source, and of each `clone`: by the type that it is a method of, or
-    none, and its name. What has no name is `ensures`; a `clone` promises what its type's `is_clone` says."""
-    of, name, found = None, None, {}
-    for line in text.split("\n"):
-        opens = re.match(r"impl(?:<[^>]*>)? (?:\w+(?:<[^>]*>)? for )?(\w+)", line)
-        of = opens[1] if opens else None if line.startswith("}") else of
-        if re.match(r" *ghost is_clone = ", line):
-            found[of, "clone"] = {"is_clone"}
-        begins = re.match(r"( *)(pub )?(?:pub\(crate\) |const )*fn (\w+)", line)
-        if begins:
-            name = (of if begins[1] else None, begins[3]) if begins[2] else None
-        clause = re.match(r" *ensures (\w+)? ?\{", line)
-        if name and clause:
-            found.setdefault(name, set()).add(clause[1] or "ensures")
+def clauses():
+    """The clauses of each call of the crates, by its full name. What has no name is `ensures`; a `clone` promises what
+    its type's `is_clone` says."""
+    found = defaultdict(set)
+    for crate in sorted(path.name for path in CRATES.iterdir()):
+        for function, body in public(crate):
+            found[function.full_name] |= {it or "ensures" for it in re.findall(r"^ *ensures (\w+)? ?\{", body, re.M)}
+        for path, text in texts_of(crate):
+            for start, end, owner in blocks(text):
+                if re.search("^ *ghost is_clone = ", text[start:end], re.M):
+                    found[f"{crate}::{owner}::clone"].add("is_clone")
     return found
 
 
 def said_by_clauses():
     """The full names of the calls whose contract says all of what they do, each with the clauses that say it."""
-    with open(os.path.join(TOP, "tests", "support", "data", "said_by_clauses.txt"), encoding="utf-8") as file:
-        for line in file:
-            if not line.startswith("#"):
-                name, *clauses = line.split()
-                yield name, clauses
+    return [(name, clauses) for name, *clauses in map(str.split, data_rows("said_by_clauses.txt"))]

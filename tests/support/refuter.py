@@ -6,6 +6,9 @@ NONE = -1  # the choice of no version
 BEYOND = 17  # an ordinal that no small package has published
 CHOICES = frozenset(range(NONE, BEYOND + 1))  # what a term may be true of; one that is true of all says nothing
 ROOT = ""
+# What a cause of each kind has beside the name of its kind.
+MEMBERS = {"line": {"line"}, "root": set(), "need": {"index"}, "disallowed": {"name", "versions"},
+           "premise": {"name", "need", "target", "versions", "within"}}
 
 
 def conclude(first, second, pivot):
@@ -63,6 +66,40 @@ class Known:
             drawn.append({name: frozenset(them) if inside else CHOICES - set(them) for name, inside,
                           them in row["conclusion"]})
         return said
+
+    def follows(self, rows, request):
+        """Whether each line follows from its causes, which are facts or stand above it, and the last one ends it."""
+        drawn = []
+        for row in rows:
+            if not all(self.is_cause(cause, request, len(drawn)) for cause in row["causes"]):
+                return False
+            first, second = (self.terms(cause, drawn, request) for cause in row["causes"])
+            drawn.append(conclude(first, second, row["pivot"]))
+            if row["pivot"] not in {**first, **second} or self.written(drawn[-1]) != row["conclusion"]:
+                return False
+        return bool(rows) and rows[-1]["conclusion"] in ([], [[ROOT, True, [0]]])
+
+    def is_cause(self, cause, request, above):
+        """Whether a cause cites one of so many lines above it, or is a fact of the registry or of the request."""
+        kind = cause.get("fact", "line")
+        form = next((members for fact, members in MEMBERS.items() if fact == kind), None)
+        if {*cause} - {"fact"} != form or ("fact" in cause) == (kind == "line"):
+            return False
+        held, versions, within = self.releases(cause.get("name")), cause.get("versions", []), cause.get("within", [])
+        if versions != sorted({*versions}) or within != sorted({*within}):
+            return False
+        if kind == "line":
+            return 1 <= cause["line"] <= above
+        if kind == "need":
+            return cause["index"] < len(request["needs"])
+        if kind == "disallowed":
+            yanked = self.yanked(cause["name"], request.get("lock", []))
+            return cause["name"] in self.names[1:] and all(it in yanked or it >= len(held) for it in versions)
+        if kind == "premise":
+            wanted = [cause["target"], cause["need"]]
+            has_it = versions and all(it < len(held) and wanted in held[it][1] for it in versions)
+            return bool(has_it) and {*self.matching(*wanted)} <= {*within}
+        return True
 
     def terms(self, cause, drawn, request):
         """What one cause says, where these are the conclusions above it."""

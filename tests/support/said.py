@@ -34,10 +34,9 @@ def number_of(reply):
 
 def is_new(*texts):
     """Whether these texts were not noted together before; from now on they are."""
-    key = tuple(map(hash, texts))
-    is_there = key in noted
-    noted.add(key)
-    return not is_there
+    before = len(noted)
+    noted.add(tuple(map(hash, texts)))
+    return len(noted) > before
 
 
 def note_session(given, printed):
@@ -52,9 +51,8 @@ def note_session(given, printed):
 
 def note_journal(text):
     """Keeps the lines between the first and the last of a journal's text."""
-    if not is_new(text):
-        return
-    JOURNAL.update(list(alike(text))[1:-1])
+    if is_new(text):
+        JOURNAL.update(list(alike(text))[1:-1])
 
 
 def note_run(words, given, printed, folder=""):
@@ -65,7 +63,7 @@ def note_run(words, given, printed, folder=""):
         paths = [os.path.join(folder, word) for word in words[1:] if word != "--"]
         if not all(map(os.path.isfile, paths)):
             return
-        given = b"".join(line + b"\n" for path in paths for line in lines_in(read(path)))
+        given = b"".join(line + b"\n" for path in paths for line in lines_in(Path(path).read_bytes()))
         lines = printed.splitlines(keepends=True)
         printed, journal = (b"".join(part) for part in (lines[:given.count(b"\n")], lines[given.count(b"\n"):]))
         note_journal(journal)
@@ -74,12 +72,7 @@ def note_run(words, given, printed, folder=""):
         path = os.path.join(folder, word)
         # what a link leads to may be what these tests write themselves, as /proc/self/fd/1
         if option in ("--save", "--journal") and os.path.isfile(path) and not os.path.islink(path):
-            note_journal(read(path))
-
-
-def read(path):
-    with open(path, "rb") as file:
-        return file.read()
+            note_journal(Path(path).read_bytes())
 
 
 def keep():

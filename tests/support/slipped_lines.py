@@ -7,11 +7,10 @@ from tests.support.made_lines import NAMES, REQUIREMENTS, VERSIONS, Maker
 
 LETTERS = "0123456789.*xX^~=<>,- +abzAZ_|v\t!&()[]/'\"\\ é\u00a0\u200b\U0001f600"
 TOOLS = ["~> 1.2", "~> 1.2.3", "=> 1", "==1.0", "^1 || ^2", ">=1 <2", "1.2.3 - 2.0.0", "[1.0,2.0)", "", "latest",
-         "1.2-alpha", ">=*", "*.1", "1.*.2",
-         "01.2", "v1.2", "1.2.3.4", "1,", ",1", "!=1", "(>= 1.0)", "<< 2", ">> 1.0", "~=1.4.2", ">=1.2,,<2", "^1 2",
-         "\t1", "*,*", "* ", " x ", "X,1",
-         "^ 1", "^  1.2 , <3", "=1.*", "1.x.X", "1.2.x-a", "1.2.3-a.b+c", "1.2.3+", ">=1.2.3-0", "<1.2.3-01", "1.2.3 ,",
-         "^18446744073709551615", "~18446744073709551616"]
+         "1.2-alpha", ">=*", "*.1", "1.*.2", "01.2", "v1.2", "1.2.3.4", "1,", ",1", "!=1", "(>= 1.0)", "<< 2", ">> 1.0",
+         "~=1.4.2", ">=1.2,,<2", "^1 2", "\t1", "*,*", "* ", " x ", "X,1", "^ 1", "^  1.2 , <3", "=1.*", "1.x.X",
+         "1.2.x-a", "1.2.3-a.b+c", "1.2.3+", ">=1.2.3-0", "<1.2.3-01", "1.2.3 ,", "^18446744073709551615",
+         "~18446744073709551616"]
 
 
 class Slips(Maker):
@@ -22,7 +21,16 @@ class Slips(Maker):
         if kind < 0.4:
             return self.other_text(value)
         text = json.dumps(value, separators=self.rng.choice([(",", ":"), (", ", ": ")]), ensure_ascii=False)
-        return self.rng.choice(SLIPS)(self, text).replace("\n", " ").encode("utf-8", "surrogatepass")
+        return self.slip(text).replace("\n", " ").encode("utf-8", "surrogatepass")
+
+    def slip(self, text):
+        """A line with one slip: in one place, or in whole, of its quotes, at its end, or around it."""
+        slip = self.rng.choice([*WHOLE, *ONE])
+        if isinstance(slip, tuple):
+            return self.once(*slip, text)
+        word = self.near_text(self.rng.choice(WORDS)).replace("\\", "")
+        return slip.format(text, text.replace('"', "'"), text.replace('"', "’"), text[:self.rng.randrange(len(text))],
+                           self.once('(?<=")[a-z]+(?=")', word, text))
 
     def other_text(self, value):
         """A line in which one of its texts is near to another."""
@@ -65,43 +73,12 @@ def texts_of(value):
             yield from texts_of(held)
 
 
-SLIPS = [
-    lambda maker, text: text.replace('"', "'"),
-    lambda maker, text: text.replace('"', "’"),
-    lambda maker, text: maker.once(r"[\]}]", r",\g<0>", text),
-    lambda maker, text: maker.once(r'"(\w+)"', r"\1", text),
-    lambda maker, text: maker.once(r'"([^"]*)"', r"'\1'", text),
-    lambda maker, text: maker.once(r'"([^"]*)"', r"“\1”", text),
-    lambda maker, text: maker.once(r",", r"", text),
-    lambda maker, text: maker.once(r":", r" =", text),
-    lambda maker, text: maker.once(r"[\[\]{}]", r"", text),
-    lambda maker, text: maker.once(r"\]", r"}", text),
-    lambda maker, text: maker.once(r'"', r"", text),
-    lambda maker, text: maker.once(r'"(\w+)"', r'"\1s"', text),
-    lambda maker,
-    text: maker.once(r'(?<=")[a-z]+(?=")',
-                     maker.near_text(maker.rng.choice(["op", "needs", "version", "name", "publish", "list"])).replace(
-                         "\\", ""), text),
-    lambda maker, text: "\ufeff" + text,
-    lambda maker, text: text + ",",
-    lambda maker, text: text + ";",
-    lambda maker, text: text + text,
-    lambda maker, text: "[" + text + "]",
-    lambda maker, text: text + " // " + text,
-    lambda maker, text: "# " + text,
-    lambda maker, text: text + "\r",
-    lambda maker, text: maker.once(r"[,:]", "\\g<0>\u00a0", text),
-    lambda maker, text: maker.once(r"(true|false)", r'"\1"', text),
-    lambda maker, text: maker.once(r"(true|false)", "True", text),
-    lambda maker, text: maker.once(r"\d+", r'"\g<0>"', text),
-    lambda maker, text: maker.once(r"\d+", r"\g<0>.0", text),
-    lambda maker, text: maker.once(r"\d+", r"-\g<0>", text),
-    lambda maker, text: maker.once(r"\d+", r"0\g<0>", text),
-    lambda maker, text: maker.once(r"\[(\[[^\]]*\])\]", r"\1", text),
-    lambda maker, text: maker.once(r"\[\[([^,\]]*),([^,\]]*)\]\]", r"{\1:\2}", text),
-    lambda maker, text: maker.once(r"\[([^,\]\[]*),([^,\]\[]*)\]", r"[\1]", text),
-    lambda maker, text: maker.once(r'"(\w+)","', r'"\1 ', text),
-    lambda maker, text: "",
-    lambda maker, text: " ",
-    lambda maker, text: text[:maker.rng.randrange(len(text))],
-]
+# What a line becomes in whole, and in one place of those that a pattern finds.
+WHOLE = ["\ufeff{0}", "{0},", "{0};", "{0}{0}", "[{0}]", "{0} // {0}", "# {0}", "{0}\r", "", " ",
+         "{1}", "{2}", "{3}", "{4}"]
+ONE = [(r"[\]}]", r",\g<0>"), (r'"(\w+)"', r"\1"), (r'"([^"]*)"', r"'\1'"), (r'"([^"]*)"', r"“\1”"), (",", ""),
+       (":", " ="), (r"[\[\]{}]", ""), (r"\]", "}"), ('"', ""), (r'"(\w+)"', r'"\1s"'), ("[,:]", "\\g<0>\u00a0"),
+       ("(true|false)", r'"\1"'), ("(true|false)", "True"), (r"\d+", r'"\g<0>"'), (r"\d+", r"\g<0>.0"),
+       (r"\d+", r"-\g<0>"), (r"\d+", r"0\g<0>"), (r"\[(\[[^\]]*\])\]", r"\1"),
+       (r"\[\[([^,\]]*),([^,\]]*)\]\]", r"{\1:\2}"), (r"\[([^,\]\[]*),([^,\]\[]*)\]", r"[\1]"), (r'"(\w+)","', r'"\1 ')]
+WORDS = ["op", "needs", "version", "name", "publish", "list"]

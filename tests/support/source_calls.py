@@ -9,7 +9,8 @@ import os
 import re
 
 WORD = r"[A-Za-z_]\w*"
-FUNCTION = re.compile(rf"^ *(?:pub(?:\(crate\))? )?(?:unsafe )?(?:extern \"C\" )?fn (?P<name>{WORD})", re.M)
+FUNCTION = re.compile(
+    rf"^ *(?P<pub>pub )?(?:pub\(\w+\) )?(?:(?:const|unsafe|extern \"C\") )*fn (?P<name>{WORD})", re.M)
 OWNER = re.compile(
     rf"^(?:unsafe )?(?:impl(?:<[^\n]*?>)? (?:[^\n]*? for )?(?P<type>{WORD})|(?:pub )?trait (?P<trait>{WORD}))", re.M)
 IMPORT = re.compile(r"^(?:pub )?use (\w+)(?:::\w+)*::(?:\{([^}]*)\}|(\w+));", re.M)
@@ -27,13 +28,15 @@ class Function:
     path: str
     owner: str
     name: str
+    is_public: bool
 
     @property
     def crate(self):
         return self.path.partition(os.sep)[0]
 
-    def __str__(self):
-        return f"{self.crate}: {self.owner}::{self.name}" if self.owner else f"{self.crate}: {self.name}"
+    @property
+    def full_name(self):
+        return "::".join(part for part in (self.crate, self.owner, self.name) if part)
 
 
 def blocks(text):
@@ -49,7 +52,8 @@ def functions_of(path, text):
     found = list(FUNCTION.finditer(text))
     for one, after in zip(found, [*found[1:], None]):
         owner = next((of for start, end, of in owners if start <= one.start() < end), "")
-        yield Function(path, owner, one["name"]), text[one.end():after.start() if after else len(text)]
+        function = Function(path, owner, one["name"], bool(one["pub"]))
+        yield function, text[one.end():after.start() if after else len(text)]
 
 
 def imports_of(text, crates):

@@ -1,23 +1,5 @@
-"""Reads the tables of lines under `rows/`.
-
-    # title: what the table shows. Source: where its replies come from.
-    > {"op":"list"}
-    < {"packages":[],"revision":0}
-
-A line that begins with `#` opens a table, and more of them go on with its title. Each table is a session of its own.
-
-    > TEXT          a request line
-    % TEXT          the same, with bytes that can't stand in a text as `%0D`; a percent sign is `%25`
-    ~ OLD as NEW    the last line above that is told by `>` or `%`, with OLD, where it stands first, replaced by NEW
-    < TEXT          the reply to each request line above it that has none yet
-
-In the tables of races, under `rows/races/`:
-
-    seat N          the lines are those of file N, and the files before it are empty
-    = TEXT          a line of the journal's file
-
-Empty lines between them count for nothing, and no line ends with a space.
-"""
+"""Reads the tables of lines under `rows/`, each of which is a session or a race. rows/README.md says how they are
+written."""
 import os
 from urllib.parse import unquote_to_bytes
 
@@ -41,42 +23,19 @@ class Reader:
     """Reads the lines of one file, from its first to its last."""
 
     def __init__(self):
-        self.tables = []
+        self.tables, self.is_title = [], False
         self.waiting = []  # request lines without a reply so far, with their places
         self.base = b""
-        self.is_title = False
-
-    def fail(self, told, place):
-        raise ValueError(f"{place}: {told}")
-
-    def request(self, line, place):
-        if b"\n" in line:
-            self.fail("a line feed in a line", place)
-        self.waiting.append((line, place))
 
     def read(self, text, place):
-        if text != text.rstrip() or not text.isascii():
-            self.fail("a space at the end, or a letter that is not ASCII", place)
+        demand(text == text.rstrip() and text.isascii(), "a space at the end, or a letter that is not ASCII", place)
+        sign, _, rest = text.partition(" ")
         if text.startswith("#"):
             self.title(text[1:].strip(), place)
-            return
-        self.is_title = False
-        sign, _, rest = text.partition(" ")
-        if text and not self.tables:
-            self.fail("no table is open", place)
-        if sign in (">", "%"):
-            self.base = rest.encode() if sign == ">" else unquote_to_bytes(rest)
-            self.request(self.base, place)
-        elif sign == "~":
-            self.request(self.changed(*rest.partition(" as ")[::2], place), place)
-        elif sign == "<":
-            self.reply(rest, place)
-        elif sign == "seat":
-            self.tables[-1].seat = int(rest)
-        elif sign == "=":
-            self.tables[-1].journal.append(rest)
         elif text:
-            self.fail(f"no such sign: {sign}", place)
+            demand(self.tables, "no table is open", place)
+            self.row(sign, rest, place)
+        self.is_title = text.startswith("#")
 
     def title(self, text, place):
         if self.is_title:
@@ -84,24 +43,39 @@ class Reader:
             return
         self.close(place)
         self.tables.append(Table(text, place))
-        self.base, self.is_title = b"", True
+        self.base = b""
 
-    def changed(self, old, new, place):
-        if not (old and new) or old.encode() not in self.base or old == new:
-            self.fail("nothing is changed", place)
-        return self.base.replace(old.encode(), new.encode(), 1)
+    def row(self, sign, rest, place):
+        table = self.tables[-1]
+        if sign == "seat":
+            table.seat = int(rest)
+        elif sign == "=":
+            table.journal.append(rest)
+        elif sign == "<":
+            demand(self.waiting, "a reply to nothing", place)
+            table.rows += [(line, rest, at) for line, at in self.waiting]
+            self.waiting = []
+        else:
+            self.waiting.append((self.request(sign, rest, place), place))
 
-    def reply(self, text, place):
-        if not self.waiting:
-            self.fail("a reply to nothing", place)
-        self.tables[-1].rows += [(line, text, at) for line, at in self.waiting]
-        self.waiting = []
+    def request(self, sign, rest, place):
+        demand(sign in (">", "%", "~"), f"no such sign: {sign}", place)
+        if sign == "~":
+            old, _, new = rest.partition(" as ")
+            demand(old and new and old.encode() in self.base and old != new, "nothing is changed", place)
+            return self.base.replace(old.encode(), new.encode(), 1)
+        self.base = rest.encode() if sign == ">" else unquote_to_bytes(rest)
+        demand(b"\n" not in self.base, "a line feed in a line", place)
+        return self.base
 
     def close(self, place):
-        if self.waiting:
-            self.fail("a line above has no reply", place)
-        if self.tables and not (self.tables[-1].rows or self.tables[-1].journal):
-            self.fail("the table above is empty", place)
+        demand(not self.waiting, "a line above has no reply", place)
+        demand(not self.tables or self.tables[-1].rows or self.tables[-1].journal, "the table above is empty", place)
+
+
+def demand(holds, told, place):
+    if not holds:
+        raise ValueError(f"{place}: {told}")
 
 
 def tables_in(path):

@@ -1,8 +1,6 @@
 """How many steps a refusal has at most of which something is learnt, as docs/SOLVER.md says it."""
 import re
-from pathlib import Path
 
-from tests.support.program import TOP
+from tests.support.program import read
 
-TEACHING = int(re.search(r"\*\*A refusal\*\* of at most (\d+) steps",
-                         Path(TOP, "docs", "SOLVER.md").read_text(encoding="utf-8"))[1])
+TEACHING = int(re.search(r"\*\*A refusal\*\* of at most (\d+) steps", read("docs", "SOLVER.md"))[1])
