@@ -1,5 +1,6 @@
 use Rattle.std.proofs.Common.{inl, inr, arith}
 use Rattle.std.proofs.lemmas.Option.{slice_get_within}
+use Rattle.std.proofs.lemmas.Result.{IfOk-from_err}
 use Rattle.search.proofs.GoingBack.{back_place, back_search, not_satisfied, not_neither, back_falls}
 use Rattle.search.proofs.acting.meet_conflict.Goals as goal
 
@@ -39,3 +40,12 @@ index-requires c =
     let there = rw c.in-Back.is at c.in_ok-end.ensures.resolved in
     let within = slice_get_within c.resolve_conflict.new.known.items c.in-Back.line there.0 there.1 in
     omega (arith, within, c.resolve_conflict.new.known.ok.0)
+
+pub returns-in_err-count_conflict-clause-acts : goal.returns-in_err-count_conflict-clause-acts
+returns-in_err-count_conflict-clause-acts c = IfOk-from_err _ _ c.from_residual.ensures.0
+
+pub returns-in_err-end-clause-acts : goal.returns-in_err-end-clause-acts
+returns-in_err-end-clause-acts c = IfOk-from_err _ _ c.from_residual-in_err-end.ensures.0
+
+pub returns-in_err-derive_by-in-Almost-clause-acts : goal.returns-in_err-derive_by-in-Almost-clause-acts
+returns-in_err-derive_by-in-Almost-clause-acts c = IfOk-from_err _ _ c.from_residual-in_err-derive_by-in-Almost.ensures.0

@@ -1,6 +1,7 @@
 use Rattle.std.proofs.Common.{◌≡◌, ◌∙◌, sym, ap, refl, subst, arith, length, get_or}
 use Rattle.std.proofs.lemmas.Bool.{eqb-true}
 use Rattle.std.proofs.lemmas.List.{nil_from_length}
+use Rattle.std.proofs.lemmas.Result.{IfOk-from_err}
 use Rattle.derivations.specs.CausedIncompatibilities.{FollowsFrom}
 use Rattle.search.proofs.Turn.{at_within, satisfied_early, satisfied, refused_empty, back, no_decision, cause_second, next_search, refused_root, turn}
 use Rattle.search.proofs.conflict.resolve_conflict.Goals as goal
@@ -75,3 +76,33 @@ pub line_from-requires-clause-second : goal.line_from-requires-clause-second
 line_from-requires-clause-second c =
     let root = c.resolution.invariant.search.lines.root in
     rw c.deref.ensures.value (root.0, root.1, rw root.2 refl)
+
+pub returns-in_err-index-clause-search : goal.returns-in_err-index-clause-search
+returns-in_err-index-clause-search c = IfOk-from_err _ _ c.from_residual.ensures.0
+
+pub returns-in_err-index-clause-resolved : goal.returns-in_err-index-clause-resolved
+returns-in_err-index-clause-resolved c = IfOk-from_err _ _ c.from_residual.ensures.0
+
+pub returns-in_err-line-clause-search : goal.returns-in_err-line-clause-search
+returns-in_err-line-clause-search c = IfOk-from_err _ _ c.from_residual-in_err-line.ensures.0
+
+pub returns-in_err-line-clause-resolved : goal.returns-in_err-line-clause-resolved
+returns-in_err-line-clause-resolved c = IfOk-from_err _ _ c.from_residual-in_err-line.ensures.0
+
+pub returns-in_err-push-clause-search : goal.returns-in_err-push-clause-search
+returns-in_err-push-clause-search c = IfOk-from_err _ _ c.from_residual-in_err-push.ensures.0
+
+pub returns-in_err-push-clause-resolved : goal.returns-in_err-push-clause-resolved
+returns-in_err-push-clause-resolved c = IfOk-from_err _ _ c.from_residual-in_err-push.ensures.0
+
+pub returns-in_err-line-in-Derived-clause-search : goal.returns-in_err-line-in-Derived-clause-search
+returns-in_err-line-in-Derived-clause-search c = IfOk-from_err _ _ c.from_residual-in_err-line-in-Derived.ensures.0
+
+pub returns-in_err-line-in-Derived-clause-resolved : goal.returns-in_err-line-in-Derived-clause-resolved
+returns-in_err-line-in-Derived-clause-resolved c = IfOk-from_err _ _ c.from_residual-in_err-line-in-Derived.ensures.0
+
+pub returns-in_err-push-in-Derived-clause-search : goal.returns-in_err-push-in-Derived-clause-search
+returns-in_err-push-in-Derived-clause-search c = IfOk-from_err _ _ c.from_residual-in_err-push-in-Derived.ensures.0
+
+pub returns-in_err-push-in-Derived-clause-resolved : goal.returns-in_err-push-in-Derived-clause-resolved
+returns-in_err-push-in-Derived-clause-resolved c = IfOk-from_err _ _ c.from_residual-in_err-push-in-Derived.ensures.0

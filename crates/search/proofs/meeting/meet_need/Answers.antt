@@ -1,6 +1,10 @@
-use Rattle.std.proofs.Common.{◌≡◌, ◌∙◌, sym, subst, get_or, List, ap, arith, length}
+use Rattle.std.proofs.Common.{◌≡◌, ◌∙◌, ℕ, Option, None, Some, inl, sym, subst, get_or, List, ap, arith, length}
 use Rattle.versions.specs.Words.{Text}
 use Rattle.std.proofs.lemmas.Option.{slice_get_within}
+use Rattle.std.proofs.lemmas.Result.{err_from_is_err_and}
+use Rattle.versions.specs.declared.refusal.Refusal.{Refusal}
+use Rattle.versions.specs.declared.refusal.Refusal.TheVariants as refusal
+use Rattle.facts.specs.Tasks.{MayRefuse}
 use Rattle.search.proofs.Decisions.{acts_as}
 use Rattle.search.proofs.Obstacles.{need_decides, need_numbered, need_turn}
 use Rattle.search.proofs.Kept.{extends_search}
@@ -50,3 +54,26 @@ pub returns-in_ok-decide_on-in-Some-clause-acts : goal.returns-in_ok-decide_on-i
 returns-in_ok-decide_on-in-Some-clause-acts c =
     let unused = rw c.in-Neither.is at c.in_ok-acted.ensures.acts in
     acts_as c.args.task.now c.args.search.now c.propagate_incompatibility.new.search c.decide_on.new.search ⊥ ⊥ c.in_ok-decide_on-in-Some.field-0 unused.0.0 (λ none. none) c.in_ok-decide_on-in-Some.ensures.acts
+
+-- a lack of memory is refused with a budget and with none
+may_refuse : (budget : Option ℕ) (e : Refusal) → e ≡ refusal.NoMemory → MayRefuse budget e
+may_refuse None e is = is
+may_refuse (Some n) e is = inl is
+
+pub returns-in_err-at-clause-only : goal.returns-in_err-at-clause-only
+returns-in_err-at-clause-only c =
+    let err = err_from_is_err_and c.from_residual.result c.from_residual.ensures.1 in rw err.1 (may_refuse c.args.task.now.options.budget err.0 err.2)
+
+pub returns-in_err-note-clause-only : goal.returns-in_err-note-clause-only
+returns-in_err-note-clause-only c =
+    let err = err_from_is_err_and c.from_residual-in_err-note.result c.from_residual-in_err-note.ensures.1 in rw err.1 (may_refuse c.args.task.now.options.budget err.0 err.2)
+
+pub returns-in_err-acted-clause-only : goal.returns-in_err-acted-clause-only
+returns-in_err-acted-clause-only c =
+    let err = err_from_is_err_and c.from_residual-in_err-acted.result c.from_residual-in_err-acted.ensures.1 in
+    rw err.1 (subst (MayRefuse c.args.task.now.options.budget) (sym err.2) c.in_err-acted.ensures.only)
+
+pub returns-in_err-decide_on-in-Some-clause-only : goal.returns-in_err-decide_on-in-Some-clause-only
+returns-in_err-decide_on-in-Some-clause-only c =
+    let err = err_from_is_err_and c.from_residual-in_err-decide_on-in-Some.result c.from_residual-in_err-decide_on-in-Some.ensures.1 in
+    rw err.1 (subst (MayRefuse c.args.task.now.options.budget) (sym err.2) c.in_err-decide_on-in-Some.ensures.only)

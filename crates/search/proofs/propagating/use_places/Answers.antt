@@ -1,3 +1,8 @@
+use Rattle.std.proofs.Common.{◌≡◌, ℕ, Option, None, Some, inl, subst, sym}
+use Rattle.std.proofs.lemmas.Result.{IfOk-from_err, err_from_is_err_and}
+use Rattle.versions.specs.declared.refusal.Refusal.{Refusal}
+use Rattle.versions.specs.declared.refusal.Refusal.TheVariants as refusal
+use Rattle.facts.specs.Tasks.{MayRefuse}
 use Rattle.search.proofs.Using.{fell_on, fell_still, same_still}
 use Rattle.search.proofs.propagating.use_places.Goals as goal
 
@@ -44,3 +49,31 @@ returns-in-None-clause-acts c = rw c.in-None.is at c.loop-i.invariant.same
 
 pub returns-in-Some-last-clause-acts : goal.returns-in-Some-last-clause-acts
 returns-in-Some-last-clause-acts c = (c.loop-i.invariant.search, rw c.in-Some-last.is at c.loop-i.invariant.fell)
+
+-- a lack of memory is refused with a budget and with none
+may_refuse : (budget : Option ℕ) (e : Refusal) → e ≡ refusal.NoMemory → MayRefuse budget e
+may_refuse None e is = is
+may_refuse (Some n) e is = inl is
+
+pub returns-in_err-propagate_incompatibility-clause-acts : goal.returns-in_err-propagate_incompatibility-clause-acts
+returns-in_err-propagate_incompatibility-clause-acts c = IfOk-from_err _ _ c.from_residual.ensures.0
+
+pub returns-in_err-propagate_incompatibility-clause-left : goal.returns-in_err-propagate_incompatibility-clause-left
+returns-in_err-propagate_incompatibility-clause-left c =
+    let err = err_from_is_err_and c.from_residual.result c.from_residual.ensures.1 in rw err.1 (λ is. cc)
+
+pub returns-in_err-propagate_incompatibility-clause-only : goal.returns-in_err-propagate_incompatibility-clause-only
+returns-in_err-propagate_incompatibility-clause-only c =
+    let err = err_from_is_err_and c.from_residual.result c.from_residual.ensures.1 in
+    rw err.1 (subst (MayRefuse c.args.task.now.options.budget) (sym err.2) c.in_err-propagate_incompatibility.ensures.only)
+
+pub returns-in_err-push-in-Derived-clause-acts : goal.returns-in_err-push-in-Derived-clause-acts
+returns-in_err-push-in-Derived-clause-acts c = IfOk-from_err _ _ c.from_residual-in_err-push-in-Derived.ensures.0
+
+pub returns-in_err-push-in-Derived-clause-left : goal.returns-in_err-push-in-Derived-clause-left
+returns-in_err-push-in-Derived-clause-left c =
+    let err = err_from_is_err_and c.from_residual-in_err-push-in-Derived.result c.from_residual-in_err-push-in-Derived.ensures.1 in rw err.1 (λ is. cc)
+
+pub returns-in_err-push-in-Derived-clause-only : goal.returns-in_err-push-in-Derived-clause-only
+returns-in_err-push-in-Derived-clause-only c =
+    let err = err_from_is_err_and c.from_residual-in_err-push-in-Derived.result c.from_residual-in_err-push-in-Derived.ensures.1 in rw err.1 (may_refuse c.args.task.now.options.budget err.0 err.2)

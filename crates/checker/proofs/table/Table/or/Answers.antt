@@ -1,5 +1,6 @@
 use Rattle.std.proofs.Common.{◌≡◌, ◌∙◌, ℕ, ◌||◌, false, sym, subst, true}
 use Rattle.std.specs.Option.{option_copied}
+use Rattle.std.proofs.lemmas.Result.{IfOk-from_err}
 use Rattle.terms.specs.Fronts.{true_where}
 use Rattle.terms.specs.Incompats.{has_term}
 use Rattle.terms.specs.Terms.{true_of}
@@ -36,3 +37,15 @@ returns-then-is_always-clause-unsaid c _ =
     let old = c.args.self.now in
     let read = is_read c.self.inside.places.items c.self.inside.terms.items c.deref.result.now c.args.self.now c.args.pkg c.in-Some.place c.index.result.now c.self.invariant c.self.view_is c.deref.ensures.value c.in-Some.ensures.there c.index.ensures in
     says-nothing-always old c.args.pkg c.in-Some.place read.term read.once read.at (subst (λ (t : ℕ × Term). is_always t.1 ≡ true) read.same (sym c.is_always.ensures.exact ∙ c.if-is_always.true))
+
+pub returns-in_err-joined-clause-joined : goal.returns-in_err-joined-clause-joined
+returns-in_err-joined-clause-joined c = IfOk-from_err _ _ c.from_residual.ensures.0
+
+pub returns-in_err-joined-clause-said : goal.returns-in_err-joined-clause-said
+returns-in_err-joined-clause-said c = IfOk-from_err _ _ c.from_residual.ensures.0
+
+pub returns-in_err-joined-clause-unchanged : goal.returns-in_err-joined-clause-unchanged
+returns-in_err-joined-clause-unchanged c = IfOk-from_err _ _ c.from_residual.ensures.0
+
+pub returns-in_err-joined-clause-unsaid : goal.returns-in_err-joined-clause-unsaid
+returns-in_err-joined-clause-unsaid c = IfOk-from_err _ _ c.from_residual.ensures.0
