@@ -36,10 +36,13 @@ def pytest_collection_modifyitems(items):
 
 @pytest.hookimpl(optionalhook=True)
 def pytest_xdist_make_scheduler(config, log):
-    """The files go to the workers in this order, each as a whole."""
+    """The files go to the workers in this order, each as a whole, and each transcript as if it were a file of tests."""
     from xdist.scheduler import LoadFileScheduling
 
     class Files(LoadFileScheduling):
+        def _split_scope(self, nodeid):
+            return nodeid if "::test_transcript[" in nodeid else super()._split_scope(nodeid)
+
         def remove_node(self, node):
             """A test in which its worker has ended is not run again: else it would end one worker after the other."""
             begun = self.assigned_work[node].values()
