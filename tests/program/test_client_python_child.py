@@ -7,6 +7,7 @@ import subprocess
 import sys
 import threading
 import time
+from concurrent.futures import ThreadPoolExecutor
 from unittest import mock
 
 import registryd
@@ -155,8 +156,8 @@ class Child(Case):
     def test_a_program_that_writes_one_reply_too_many(self):
         registry = other(f"{OK}\ntime.sleep(100)")
         registry._session._threads[2].join(SECONDS)
-        self.ends("the program wrote no reply", registry.list)
-        self.ends("the program wrote no reply", registry.close)
+        for call in (registry.list, registry.close):
+            self.ends("the program wrote no reply", call)
 
     @mock.patch.object(registryd.waiting, "WAITED", 0.05)
     def test_a_program_that_closes_its_ends(self):
@@ -252,12 +253,10 @@ with registryd.Registry({PROGRAM!r}) as registry:
         self.assertTrue(comes(lambda: not is_running(program)))
 
     def test_a_program_goes_on_where_the_thread_has_ended_that_began_it(self):
-        begun = []
-        thread = threading.Thread(target=lambda: begun.append(Registry(PROGRAM)))
-        thread.start()
-        thread.join(SECONDS)
+        with ThreadPoolExecutor(1) as thread:
+            registry = thread.submit(Registry, PROGRAM).result()
         time.sleep(0.1)
-        with begun[0] as registry:
+        with registry:
             self.assertEqual(registry.publish("a", "1.0.0"), 1)
 
     def test_an_interrupt_amid_a_search(self):

@@ -110,7 +110,7 @@ class Places(Saved):
         self.assertEqual(self.beside(), ["fifo"])
 
     def test_a_standard_stream_that_is_closed_gets_no_file(self):
-        kept, line = os.path.join(self.folder, "kept"), publish("a", "1.0.0")
+        kept, line = self.kept, publish("a", "1.0.0")
         self.begin(True)
         for closed, told in (("<&-", b"registryd: input failed\n"), (">&-", FAILED)):
             for option, file in (("--save", self.saved), ("--journal", kept)):
