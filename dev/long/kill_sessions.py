@@ -98,7 +98,6 @@ class Session:
                 self.sent += len(burst)
 
     def read_some(self, seconds: float) -> None:
-        """Reads what comes within so much time."""
         if select.select([self.running.stdout], [], [], seconds)[0]:
             piece = os.read(self.running.stdout.fileno(), 65_536)
             self.read += piece

@@ -33,7 +33,6 @@ def said(*words, **more):
 
 
 def declared():
-    """The calls of the header."""
     return sorted(re.findall(r"^(?:int |const char \*)(registryd_\w+)\(",
                              Path(CLIENT, "registryd.h").read_text(encoding="utf-8"), re.M))
 

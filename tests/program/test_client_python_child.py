@@ -13,7 +13,7 @@ from unittest import mock
 import registryd
 from registryd import Accepted, BudgetSpent, Ended, List, Listing, NoSelection, Publish, Registry, Selection
 from tests.support.client_python import PYTHON, SECONDS, SOON, Case, other, pigeons
-from tests.support.processes import is_running
+from tests.support.processes import comes, is_running
 from tests.support.program import PROGRAM, TOP, heed_signals
 
 # What a program in Python prints as a reply to a command.
@@ -268,11 +268,3 @@ with registryd.Registry({PROGRAM!r}) as registry:
         self.assertLess(time.monotonic() - begun, SOON)
         self.assertEqual(told.splitlines()[-1], "KeyboardInterrupt")
         self.assertFalse(is_running(program))
-
-
-def comes(condition):
-    """Whether this comes true in time."""
-    limit = time.monotonic() + SECONDS
-    while not condition() and time.monotonic() < limit:
-        time.sleep(0.01)
-    return condition()

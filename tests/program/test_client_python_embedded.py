@@ -1,5 +1,6 @@
 """The client in Python over the library in this process: which library it takes, what it refuses to begin, and what
 becomes of sessions that are forgotten, forked, interrupted, or closed while a search runs."""
+import contextlib
 import os
 import shutil
 import threading
@@ -73,15 +74,9 @@ class Embedded(Case):
             self.assertEqual(other.list(), Listing(1, {"c": (("1.0.0", False),)}))
 
     def test_more_sessions_than_there_may_be(self):
-        opened = []
-        try:
-            with self.assertRaisesRegex(Ended, "as many sessions are open as may be"):
-                while True:
-                    opened.append(self.open())
-            self.assertLessEqual(len(opened), MOST)
-        finally:
-            for registry in opened:
-                registry.close()
+        with contextlib.ExitStack() as opened, self.assertRaisesRegex(Ended, "as many sessions are open as may be"):
+            for _ in range(MOST + 1):
+                opened.enter_context(self.open())
         self.open().close()
 
     def test_sessions_that_are_forgotten_are_closed(self):

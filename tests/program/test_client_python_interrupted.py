@@ -218,7 +218,6 @@ class WithService(Stepped, Case):
 
 class Signals(Case):
     def interrupted(self, call):
-        """Makes a call, which a signal's handler interrupts."""
         def handler(*_):
             raise Broken
         self.addCleanup(signal.signal, signal.SIGUSR1, signal.signal(signal.SIGUSR1, handler))

@@ -99,7 +99,6 @@ def batch_at(lines, place):
 
 
 def commands_in(saved):
-    """The commands of a journal's text."""
     return [line for line in saved.decode().split("\n")[1:-2] if not line.startswith('{"derivation"')]
 
 

@@ -68,7 +68,6 @@ class Judged(unittest.TestCase):
         self.folder = self.enterContext(tempfile.TemporaryDirectory())
 
     def raced(self, files, **env):
-        """What a race of files prints."""
         done = subprocess.run([self.race, "race", *plain_race.written(self.folder, files)], timeout=300,
                               env={**os.environ, **env}, capture_output=True)
         self.assertEqual((done.returncode, done.stderr), (0, b""))

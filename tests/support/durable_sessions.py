@@ -81,7 +81,6 @@ def accepted(lines, before):
 
 
 def journal_lines(lines):
-    """These commands as a journal has them."""
     return [journal_line(line).encode() for line in lines]
 
 

@@ -39,7 +39,6 @@ class BySeat(InProcess):
 
 
 def in_process(tests, way=InProcess):
-    """The tests of a class, run so."""
     return type(tests.__name__, (way, tests), {})
 
 
