@@ -18,63 +18,29 @@ import json
 import os
 import random
 import re
-import select
-import subprocess
 import sys
 import tempfile
-import time
 from collections import defaultdict
 from collections.abc import Sequence
 from typing import Any
 
+from dev.long.kill_sessions import Session, demand_loaded, found_in, gone_on, many_killed
 from dev.long.race_many import made
 from dev.runs import Find, Run, demand, seed_tried
-from registry_cli import tied
 from tests.support import library, plain_race, program
 from tests.support.made_lines import Maker
-from tests.support.plain_remnant import NoRemnant, Reader, is_learnt
+from tests.support.plain_remnant import Reader, is_learnt
 
 SOURCE = os.path.join(library.TESTS, "seats_told.c")
 ROUNDS = 8  # that one file has
 SEATS = (2, 4, 4, 8, 8)
 KINDS = ("time", "time", "time", "reply", "reply", "end")  # of kills; of the last kind a program ends well
-LIMIT = 100  # seconds in which a program has replied or is gone
 
 
 def lines_of(rng: random.Random, count: int) -> list[list[bytes]]:
     """The lines of each seat: most of them commands."""
     maker, most = Maker(rng), rng.choice([5, 30, 100]) * 4 // count
     return [[made(maker).replace(b"\n", b" ") or b"{}" for _ in range(rng.randint(1, most))] for _ in range(count)]
-
-
-# ---- One run
-
-def begun(told: str, folder: str, path: str, files: Sequence[Sequence[bytes]]) -> tied.Tied:
-    """A program whose seats go on with a file, and are given these lines."""
-    names = [os.path.join(folder, f"lines{number}") for number in range(len(files))]
-    for name, lines in zip(names, files):
-        with open(name, "wb") as out:
-            out.writelines(line + b"\n" for line in lines)
-    pipe = subprocess.PIPE
-    return tied.Tied([told, path, *names], stdin=subprocess.DEVNULL, stdout=pipe, stderr=pipe, bufsize=0)
-
-
-def read_until_killed(rng: random.Random, running: tied.Tied, count: int) -> tuple[bool, bytes, tuple[int, bytes]]:
-    """Kills a program at a random moment: answers whether it was, what was read of it, and how it ended."""
-    kind, at, read, is_open = rng.choice(KINDS), rng.randrange(count), b"", True
-    start = time.monotonic()
-    until, limit, is_killed = start + rng.random() ** 2 * 0.4, start + LIMIT, False
-    while is_open:
-        now, replies = time.monotonic(), read.count(b"\n")
-        if not is_killed and (now > limit or (kind == "time" and now > until) or (kind == "reply" and replies > at)):
-            running.kill()
-            is_killed = True
-        if select.select([running.stdout], [], [], 0.001)[0]:
-            piece = os.read(running.stdout.fileno(), 65_536)
-            read, is_open = read + piece, piece != b""
-    with running.stdout, running.stderr:
-        demand(time.monotonic() < limit, f"{read.count(bytes([10]))} replies to {count} lines in {LIMIT} seconds")
-        return is_killed, read, (running.wait(), running.stderr.read())
 
 
 # ---- How it is judged
@@ -136,23 +102,8 @@ def as_entry(line: bytes) -> bytes:
 
 
 def entries_in(reader: Reader, path: str) -> list[bytes]:
-    if not os.path.exists(path):
-        return []
-    with open(path, "rb") as file:
-        text = file.read()
-    try:
-        lines: list[bytes] = reader.read(text).lines
-        return lines
-    except NoRemnant as fault:
-        raise Find(f"the file is no journal: {fault}\n{text[-3000:]!r}") from fault
-
-
-def gone_on(path: str, words: Sequence[str]) -> bytes:
-    """What a session of the program lists, which begins with the file."""
-    done = program.run([*program.SERVE, *words, path], b'{"op":"list"}\n')
-    demand((done.returncode, done.stderr) == (0, b""), f"a session ends with {done.returncode} {done.stderr}")
-    listed: bytes = done.stdout
-    return listed
+    entries: list[bytes] = found_in(reader, path).lines if os.path.exists(path) else []
+    return entries
 
 
 def killed(seed: int, told: str, most: int, folder: str) -> tuple[int, int, int]:
@@ -163,7 +114,8 @@ def killed(seed: int, told: str, most: int, folder: str) -> tuple[int, int, int]
     path, reader = os.path.join(folder, "kept.journal"), Reader()
     for number in range(ROUNDS):
         files = lines_of(rng, rng.choice(SEATS))
-        is_killed, read, ended = read_until_killed(rng, begun(told, folder, path, files), sum(map(len, files)))
+        running = Session([path, *plain_race.written(folder, files)], [], told, sum(map(len, files)))
+        is_killed, read, ended = running.run(rng, KINDS)
         # it may end by itself before it is killed
         is_right = ended == (0, b"") or (is_killed and ended == (-9, b""))
         demand(is_right, f"run {number} ends with {ended[0]} {ended[1]!r}")
@@ -171,13 +123,13 @@ def killed(seed: int, told: str, most: int, folder: str) -> tuple[int, int, int]
         demand(entries or b'"ok"' not in read, "a command was accepted, and there is no entry")
         judged(entries, before, files, read)
         if rng.random() < 0.3:
-            gone_on(path, ["--journal"])
+            gone_on(path)
             demand(entries_in(reader, path) == entries, "the program has left something else")
         before = entries
-        kills, replies = kills + is_killed, replies + read.count(b"\n")
+        kills, replies = kills + (ended[0] != 0), replies + read.count(b"\n")
         if kills == most:
             break
-    demand(gone_on(path, ["--journal"]) == gone_on(path, ["--load"]), "what it left is loaded as something else")
+    demand_loaded(path)
     return kills, replies, os.path.getsize(path)
 
 
@@ -187,17 +139,10 @@ def tried(seed: int, told: str, most: int = ROUNDS) -> tuple[Any, ...]:
 
 
 def main(words: Sequence[str]) -> int:
-    run, kills, replies = Run(__doc__, words, kills=40), 0, 0
-    sizes: list[int] = []
+    run = Run(__doc__, words, kills=40)
     with tempfile.TemporaryDirectory() as folder:
         told = library.linked(os.path.join(folder, "told"), SOURCE)
-        for of_one, of_replies, size in run.each(functools.partial(tried, told=told, most=run.count)):
-            kills, replies = kills + of_one, replies + of_replies
-            sizes.append(size)
-            if kills >= run.count:
-                break
-    return run.end(f"{kills:,} kills of seats of {len(sizes)} files, the largest of {max(sizes):,} bytes, "
-                   f"{replies:,} replies read,")
+        return many_killed(run, functools.partial(tried, told=told), "seats")
 
 
 if __name__ == "__main__":

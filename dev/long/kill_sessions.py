@@ -22,6 +22,7 @@ import sys
 import threading
 import time
 from collections.abc import Callable, Sequence
+from pathlib import Path
 from typing import Any
 
 from dev.long.race_many import contended
@@ -82,10 +83,11 @@ def bursts_of(rng: random.Random, is_long: bool) -> list[list[bytes]]:
 class Session:
     """A program, a thread that writes its lines, and the replies that are read until it is killed."""
 
-    def __init__(self, words: Sequence[str], bursts: Sequence[Sequence[bytes]]) -> None:
+    def __init__(self, words: Sequence[str], bursts: Sequence[Sequence[bytes]], path: str = "", count: int = 0) -> None:
+        """A program at another path may have been given so many lines otherwise."""
         pipe = subprocess.PIPE
-        self.running = tied.Tied([program.PROGRAM, *words], stdin=pipe, stdout=pipe, stderr=pipe, bufsize=0)
-        self.bursts, self.count, self.sent = bursts, sum(map(len, bursts)), 0
+        self.running = tied.Tied([path or program.PROGRAM, *words], stdin=pipe, stdout=pipe, stderr=pipe, bufsize=0)
+        self.bursts, self.count, self.sent = bursts, sum(map(len, bursts), count), count
         self.read, self.replies, self.is_open = b"", 0, True
         self.writer = threading.Thread(target=self.write)
 
@@ -96,20 +98,19 @@ class Session:
                 self.sent += len(burst)
 
     def read_some(self, seconds: float) -> None:
-        """Reads what comes within so much time."""
         if select.select([self.running.stdout], [], [], seconds)[0]:
             piece = os.read(self.running.stdout.fileno(), 65_536)
             self.read += piece
             self.replies += piece.count(b"\n")
             self.is_open = piece != b""
 
-    def run(self, rng: random.Random) -> tuple[bool, bytes, tuple[int, bytes]]:
+    def run(self, rng: random.Random, kinds: Sequence[str] = KINDS) -> tuple[bool, bytes, tuple[int, bytes]]:
         """Answers whether it was killed, what was read, and how it ended."""
         at, until = rng.randrange(self.count), time.monotonic() + rng.random() ** 2 * 0.3
         moments: dict[str, Callable[[], bool]]
         moments = {"time": lambda: time.monotonic() > until, "reply": lambda: self.replies > at,
                    "sent": lambda: self.sent == self.count, "end": lambda: self.replies == self.count}
-        kind, limit = rng.choice(KINDS), time.monotonic() + LIMIT
+        kind, limit = rng.choice(kinds), time.monotonic() + LIMIT
         self.writer.start()
         while self.is_open and not moments[kind]() and time.monotonic() < limit:
             self.read_some(0.001)
@@ -119,9 +120,11 @@ class Session:
         self.writer.join()
         self.running.stdin.close()
         with self.running.stdout, self.running.stderr:
-            while self.is_open:
+            while self.is_open and time.monotonic() < limit + LIMIT:
                 self.read_some(LIMIT)
-            demand(not is_late, f"{self.replies} replies to {self.sent} lines in {LIMIT} seconds")
+            if self.is_open:
+                self.running.kill()
+            demand(not is_late and not self.is_open, f"{self.replies} replies to {self.sent} lines in {LIMIT} seconds")
             return kind != "end", self.read, (self.running.wait(), self.running.stderr.read())
 
 
@@ -166,20 +169,38 @@ def told_and_asked(before: Sequence[bytes], lines: Sequence[bytes], read: bytes)
     return every[:told], every
 
 
-def judged(reader: Reader, path: str, before: Sequence[bytes], lines: Sequence[bytes], read: bytes) -> Any:
-    """What the file has: all commands that were told, and nothing else than was asked for."""
-    with open(path, "rb") as file:
-        text = file.read()
+def found_in(reader: Reader, path: str) -> Any:
+    text = Path(path).read_bytes()
     try:
-        found = reader.read(text)
+        return reader.read(text)
     except NoRemnant as fault:
         raise Find(f"the file is no journal: {fault}\n{text[-3000:]!r}") from fault
+
+
+def judged(reader: Reader, path: str, before: Sequence[bytes], lines: Sequence[bytes], read: bytes) -> Any:
+    """What the file has: all commands that were told, and nothing else than was asked for."""
+    found = found_in(reader, path)
     told, every = told_and_asked(before, lines, read)
     counts = f"{len(told)} commands were told, and the file has {len(found.commands)}"
     demand(found.commands[:len(told)] == told, f"{counts}: {told[-1:]} and {found.commands[-1:]}")
     is_asked = found.commands == every[:len(found.commands)]
     demand(is_asked, f"the file has what was not asked for: {found.commands[-1:]}")
     return found
+
+
+def gone_on(path: str) -> bytes:
+    """What a session lists that goes on with the file."""
+    last = program.run([*program.SERVE, "--journal", path], b'{"op":"list"}\n')
+    demand((last.returncode, last.stderr) == (0, b""), f"the last session ends with {last.returncode} {last.stderr}")
+    listed: bytes = last.stdout
+    return listed
+
+
+def demand_loaded(path: str) -> None:
+    """Demands that the file is loaded as what a session has that goes on with it."""
+    listed, loaded = gone_on(path), program.run([*program.SERVE, "--load", path], b'{"op":"list"}\n')
+    how = f"{loaded.returncode} {loaded.stderr}"
+    demand((loaded.returncode, loaded.stdout) == (0, listed), f"what it left is loaded with {how}")
 
 
 def killed(seed: int, most: int, folder: str) -> tuple[int, int, int]:
@@ -201,11 +222,7 @@ def killed(seed: int, most: int, folder: str) -> tuple[int, int, int]:
         kills, replies = kills + is_killed, replies + read.count(b"\n")
         if kills == most:
             break
-    last = program.run(["serve", "--workers", "1", "--journal", path], b'{"op":"list"}\n')
-    demand((last.returncode, last.stderr) == (0, b""), f"the last session ends with {last.returncode} {last.stderr}")
-    loaded = program.run([*program.SERVE, "--load", path], b'{"op":"list"}\n')
-    how = f"{loaded.returncode} {loaded.stderr}"
-    demand((loaded.returncode, loaded.stdout) == (0, last.stdout), f"what it left is loaded with {how}")
+    demand_loaded(path)
     return kills, replies, os.path.getsize(path)
 
 
@@ -213,16 +230,21 @@ def tried(seed: int, most: int = SESSIONS) -> tuple[Any, ...]:
     return seed_tried(seed, lambda folder: killed(seed, most, folder), [0, 0, 0])
 
 
-def main(words: Sequence[str]) -> int:
-    run, kills, replies = Run(__doc__, words, kills=40), 0, 0
+def many_killed(run: Run, tried: Callable[..., tuple[Any, ...]], what: str) -> int:
+    """Tries seeds until so many are killed as are asked for; answers the exit status."""
+    kills = replies = 0
     sizes: list[int] = []
     for of_one, told, size in run.each(functools.partial(tried, most=run.count)):
         kills, replies = kills + of_one, replies + told
         sizes.append(size)
         if kills >= run.count:
             break
-    return run.end(f"{kills:,} kills of sessions of {len(sizes)} files, the largest of {max(sizes):,} bytes, "
+    return run.end(f"{kills:,} kills of {what} of {len(sizes)} files, the largest of {max(sizes):,} bytes, "
                    f"{replies:,} replies read,")
+
+
+def main(words: Sequence[str]) -> int:
+    return many_killed(Run(__doc__, words, kills=40), tried, "sessions")
 
 
 if __name__ == "__main__":

@@ -105,11 +105,7 @@ def race(seed: int, pausing: str, folder: str) -> tuple[int, int]:
     """One race, judged; answers how many lines and entries it had."""
     rng = random.Random(f"race {seed}")
     files = files_of(rng)
-    paths = [os.path.join(folder, str(number)) for number in range(len(files))]
-    for path, lines in zip(paths, files):
-        with open(path, "wb") as out:
-            out.writelines(line + b"\n" for line in lines)
-    status, printed, told = run(rng, pausing, paths)
+    status, printed, told = run(rng, pausing, plain_race.written(folder, files))
     plain_race.demand((status, told) == (0, b""), f"a race ends with {status} {told[:300]!r}")
     return sum(map(len, files)), plain_race.judge(files, printed.decode())
 

@@ -4,16 +4,15 @@ import os
 import re
 import signal
 import subprocess
-import tempfile
 import time
-import unittest
 from pathlib import Path
 
 import pytest
 
+from tests.support import library
 from tests.support.library import CLIENT, FOLDER, TESTS, linked, linked_with_sources, needs_library
 from tests.support.processes import is_gone, is_running
-from tests.support.program import PATIENCE, PROGRAM, resolve, skip_without
+from tests.support.program import PROGRAM, resolve, skip_without
 from tests.support.registry_folder import pigeons
 
 pytestmark = pytest.mark.not_quick("the static library")
@@ -35,31 +34,32 @@ end 2
 """
 
 
+def check_example(command, path, **more):
+    """An example answers its lines; a second one goes on with its journal."""
+    for wanted in (REPLIES, AGAIN):
+        done = subprocess.run([*command, path], capture_output=True, timeout=300, **more)
+        assert (done.returncode, done.stdout, done.stderr) == (0, wanted, b"")
+    assert path.read_text(encoding="ascii") == JOURNAL
+    path.unlink()
+
+
 @needs_library
 @skip_without("cc", "gcc")
-class Client(unittest.TestCase):
-    def setUp(self):
-        self.folder = self.enterContext(tempfile.TemporaryDirectory())
-        self.caller = os.path.join(self.folder, "caller")
-
-    def do(self, *words):
-        """Runs a command in the test's folder, which has to succeed without a word on standard error."""
-        done = subprocess.run(words, cwd=self.folder, capture_output=True, timeout=300)
-        self.assertEqual((done.returncode, done.stderr), (0, b""), done.stdout)
+class Client(library.Caller):
+    def do(self, *words, status=0, told=b"", **more):
+        """What a command prints in the test's folder, which has to end so, and to say this on standard error."""
+        done = subprocess.run(words, cwd=self.folder, capture_output=True, timeout=300, **more)
+        self.assertEqual((done.returncode, done.stderr), (status, told), done.stdout)
         return done.stdout
 
     def check_example(self, *words):
-        self.assertEqual(self.do(self.caller, *words, "a.journal"), REPLIES)
-        # a second one goes on with the journal
-        self.assertEqual(self.do(self.caller, *words, "a.journal"), AGAIN)
-        self.assertEqual(Path(self.folder, "a.journal").read_text(encoding="ascii"), JOURNAL)
+        check_example([self.caller, *words], Path(self.folder, "a.journal"))
 
     def test_the_example_in_process(self):
         linked(self.caller, os.path.join(CLIENT, "example.c"))
         self.check_example()
-        done = subprocess.run([self.caller, "no/such.journal"], cwd=self.folder, capture_output=True)
         told = b"journal no/such.journal: can't be created: No such file or directory (os error 2)\n"
-        self.assertEqual((done.returncode, done.stdout, done.stderr), (1, b"", told))
+        self.assertEqual(self.do(self.caller, "no/such.journal", status=1, told=told), b"")
 
     def test_the_example_by_a_child(self):
         linked(self.caller, os.path.join(CLIENT, "example_child.c"))
@@ -86,23 +86,19 @@ class Client(unittest.TestCase):
     def test_careless_callers(self):
         # what goes beyond its memory, or is undefined in C, ends the program
         linked_with_sources(self.caller, CALLS, "-g", "-fsanitize=address,undefined", "-fno-sanitize-recover")
-        done = subprocess.run([self.caller, PROGRAM], cwd=self.folder, capture_output=True, timeout=100)
-        self.assertEqual((done.returncode, done.stdout), (0, b""), done.stderr)
         # the program's own words on the journal that isn't there, and on the one that another session has
-        self.assertEqual(done.stderr, b"registryd: input failed\n" * 2
-                         + b"registryd: journal k.journal: in use by another session\n")
+        told = b"registryd: input failed\n" * 2 + b"registryd: journal k.journal: in use by another session\n"
+        self.assertEqual(self.do(self.caller, PROGRAM, told=told), b"")
 
     def test_no_memory_for_replies(self):
         linked(self.caller, MEMORY, "-Wl,--wrap=realloc")
-        done = subprocess.run([self.caller, PROGRAM], capture_output=True, timeout=300)
         # a program that nobody hears any more says so
-        self.assertEqual((done.returncode, done.stdout, done.stderr), (0, b"", b"registryd: output failed\n"))
+        self.assertEqual(self.do(self.caller, PROGRAM, told=b"registryd: output failed\n"), b"")
 
     def test_a_session_is_closed_while_a_thread_waits_for_a_search(self):
         linked_with_sources(self.caller, CLOSED, "-g", "-fsanitize=thread")
-        done = subprocess.run([self.caller, PROGRAM], input=SEARCH, capture_output=True, timeout=PATIENCE)
-        ended = b"4\n", b"1\n"  # amid its call, or before the next one
-        self.assertIn((done.returncode, done.stdout, done.stderr), [(0, told, b"") for told in ended])
+        # it is told amid its call, or before the next one
+        self.assertIn(self.do(self.caller, PROGRAM, input=SEARCH), (b"4\n", b"1\n"))
 
     def test_the_program_does_not_outlive_its_caller(self):
         linked(self.caller, OUTLIVED)

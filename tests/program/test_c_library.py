@@ -14,7 +14,7 @@ from dev.building import build_library, c_library
 from dev.building.c_library import Library
 from dev.building.programs import COMPILED, PROVED, Program
 from dev.installing import install, installed, package, prefix
-from tests.program.test_c_client import AGAIN, JOURNAL, REPLIES
+from tests.program.test_c_client import check_example
 from tests.program.test_readme import blocks
 from tests.support.called import called
 from tests.support.library import CLIENT, FOLDER, STRICT, needs_library
@@ -23,6 +23,7 @@ from tests.support.program import PROGRAM, TOP, skip_without
 pytestmark = pytest.mark.not_quick("the static library")
 EXAMPLE = os.path.join(CLIENT, "example.c")
 VERSION = Path(TOP, "VERSION").read_text(encoding="ascii").strip()
+UNPROVED = Program(Path(PROGRAM), COMPILED, "")
 
 
 def said(*words, **more):
@@ -32,7 +33,6 @@ def said(*words, **more):
 
 
 def declared():
-    """The calls of the header."""
     return sorted(re.findall(r"^(?:int |const char \*)(registryd_\w+)\(",
                              Path(CLIENT, "registryd.h").read_text(encoding="utf-8"), re.M))
 
@@ -153,19 +153,13 @@ class Installed(unittest.TestCase):
         self.env = {**os.environ, "PKG_CONFIG_PATH": str(self.prefix / "lib/pkgconfig")}
 
     def install(self, kind=COMPILED):
-        prefix.install(self.prefix,
-                       installed.pieces(Program(Path(PROGRAM), COMPILED, ""), library=Library(FOLDER, kind)))
+        prefix.install(self.prefix, installed.pieces(UNPROVED, library=Library(FOLDER, kind)))
 
     def flags(self, *words):
         return said("pkg-config", *words, "registryd", env=self.env)
 
     def check_example(self, env=None):
-        path = self.folder / "a.journal"
-        for wanted in (REPLIES, AGAIN):
-            done = subprocess.run([self.folder / "example", path], env=env, capture_output=True)
-            self.assertEqual((done.returncode, done.stdout, done.stderr), (0, wanted, b""))
-        self.assertEqual(path.read_text(encoding="ascii"), JOURNAL)
-        path.unlink()
+        check_example([self.folder / "example"], self.folder / "a.journal", env=env)
 
     @skip_without("pkg-config", "pkg-config")
     def test_callers_find_it(self):
@@ -195,15 +189,15 @@ class Installed(unittest.TestCase):
                 found = installed.library(Program(Path(PROGRAM), program, ""))
                 self.assertEqual(found, Library(FOLDER, library) if is_taken else None)
         with mock.patch.object(c_library, "standing", lambda: None):
-            self.assertIsNone(installed.library(Program(Path(PROGRAM), COMPILED, "")))
+            self.assertIsNone(installed.library(UNPROVED))
 
     def test_the_command_says_of_it(self):
-        program, library = Program(Path(PROGRAM), COMPILED, ""), Library(FOLDER, COMPILED)
+        library = Library(FOLDER, COMPILED)
         none = "the library for C is not installed, since none stands that may be: tools/build_library builds it\n"
         there = f"{self.prefix}/lib/libregistryd.so.0 is installed, and has code that is not proved\n"
         for found, told in ((library, there), (None, none)):
-            with mock.patch.object(installed.programs, "made", lambda _, kind: program if kind == COMPILED else None), \
-                    mock.patch.object(c_library, "standing", lambda of=found: of):
+            with (mock.patch.object(installed.programs, "made", lambda _, kind: {COMPILED: UNPROVED}.get(kind)),
+                  mock.patch.object(c_library, "standing", lambda of=found: of)):
                 status, out, error = called(install, "--unproved", str(self.prefix))
             self.assertEqual((status, error), (0, ""))
             self.assertIn(told, out)
@@ -211,9 +205,8 @@ class Installed(unittest.TestCase):
 
     @skip_without("dh", "debhelper")
     def test_the_package_has_it(self):
-        program, library = Program(Path(PROGRAM), COMPILED, ""), Library(FOLDER, COMPILED)
         with mock.patch.dict(os.environ, DPKG_DEB_COMPRESSOR_LEVEL="0"):
-            made = package.build(program, self.folder, library)
+            made = package.build(UNPROVED, self.folder, Library(FOLDER, COMPILED))
         there = said("dpkg-deb", "-c", made)
         for name in ("lib/libregistryd.a", "lib/libregistryd.so.0", "include/registryd.h",
                      "lib/pkgconfig/registryd.pc"):

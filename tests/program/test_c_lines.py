@@ -5,13 +5,12 @@ import os
 import subprocess
 import tempfile
 import unittest
-from pathlib import Path
 
 import pytest
 
 from tests.support.client_rows import CULPRITS, EXPLAINED, PUBLISHED, line_of
-from tests.support.library import CLIENT, TESTS, linked_with_sources, needs_library
-from tests.support.program import PATIENCE, PROGRAM, TOP, skip_without
+from tests.support.library import TESTS, linked_with_sources, needs_library
+from tests.support.program import PATIENCE, PROGRAM, TOP, read, skip_without
 from tests.support.tables import tables_in
 
 pytestmark = pytest.mark.not_quick("the static library")
@@ -25,7 +24,7 @@ WORDS = ["all is well", "an argument is none that the call takes", "there is no 
          "the program can't be started", "the session has ended",
          "something is the matter with a journal's file", "no answer of this library"]
 # Lines in another order and with space, with an escaped text, of no text that is at fault, and that are no requests.
-MORE = json.loads(Path(TOP, "tests", "support", "data", "c_culprits.json").read_text(encoding="ascii"))
+MORE = json.loads(read("tests", "support", "data", "c_culprits.json"))
 STRICT = ("-g", "-fsanitize=address,undefined", "-fno-sanitize-recover")
 
 
@@ -59,9 +58,8 @@ class Lines(unittest.TestCase):
         self.assertEqual(misused_steps, "1110 1111114 11114 11111 1 2 1111")
 
     def test_the_version_is_that_of_the_repository(self):
-        with open(os.path.join(TOP, "VERSION"),
-                  encoding="ascii") as version, open(os.path.join(CLIENT, "registryd.h"), encoding="ascii") as header:
-            self.assertIn(f'\n#define REGISTRYD_VERSION "{version.read().strip()}"\n', header.read())
+        wanted = f'\n#define REGISTRYD_VERSION "{read("VERSION").strip()}"\n'
+        self.assertIn(wanted, read("clients", "c", "registryd.h"))
 
 
 @needs_library
@@ -75,7 +73,6 @@ class Culprits(unittest.TestCase):
             done = subprocess.run([caller, PROGRAM], input="".join(f"{it}\n" for it in [*asked, *MORE]),
                                   capture_output=True, text=True, timeout=PATIENCE)
         self.assertEqual((done.returncode, done.stderr), (0, ""))
-        wanted = ["\t\t\t\t"] * len(PUBLISHED) + ["\t".join(part or "" for part in it[1:])
-                                                  for it in CULPRITS] + [*MORE.values()]
-        self.assertEqual(done.stdout.split("\n"), [*wanted, ""])
+        culprits = ["\t".join(part or "" for part in it[1:]) for it in CULPRITS]
+        self.assertEqual(done.stdout.split("\n"), ["\t\t\t\t"] * len(PUBLISHED) + [*culprits, *MORE.values(), ""])
         self.assertGreater(len(CULPRITS), 30)

@@ -2,9 +2,7 @@
 What is wanted is worked by hand from docs/FORMATS.md and docs/REGISTRY.md."""
 import json
 import re
-import subprocess
-import sys
-import threading
+from concurrent.futures import ThreadPoolExecutor
 from pathlib import Path
 
 import registryd
@@ -12,7 +10,7 @@ from registryd import (
     REFUSALS, Accepted, Check, Line, List, Listing, NoSelection, Publish, Refusal, Registry, Resolve, Selection,
     Unyank, Yank)
 from tests.support import client_python
-from tests.support.client_python import PYTHON, SECONDS, blocks, read
+from tests.support.client_python import SECONDS, accepted, blocks, printed, read
 from tests.support.client_rows import CULPRITS, PUBLISHED
 from tests.support.library import LIBRARY, needs_library
 from tests.support.program import PROGRAM, files_of_at_most
@@ -31,15 +29,8 @@ REFUSED = [*((error, Line(json.dumps(asked).encode())) for asked, error, *_ in C
 
 
 class Calls:
-    """What each session does, whichever way it was opened."""
-
-    def open(self, **options):
-        raise NotImplementedError
-
-    def fails(self, told, call, file=None):
-        """This call tells that the session has ended: of a file in these words, which the program says of a journal
-        that is loaded or saved in other ones, `file`."""
-        raise NotImplementedError
+    """What each session does, whichever way `open` opens it. `fails` demands that a call tells of the session's end: of
+    a file in these words, or in others, `file`, which the program has for a journal that is loaded or saved."""
 
     def raises(self, name, future):
         with self.assertRaises(Refusal) as caught:
@@ -71,8 +62,7 @@ class Calls:
 
     def test_what_the_program_refuses(self):
         with self.open() as registry:
-            for line in PUBLISHED:
-                registry.ask(Line(line.encode())).result(SECONDS)
+            accepted(registry, [Line(line.encode()) for line in PUBLISHED])
             # all at once, and one by one
             futures = registry.many([request for _, request in REFUSED])
             for (name, request), future in zip(REFUSED, futures):
@@ -91,29 +81,19 @@ class Calls:
         self.assertEqual(replies[2000:], [Selection(2000, {"a": f"{number}.0.0"}) for number in range(2000)])
 
     def test_threads_that_share_a_session(self):
-        answered = {}
-
         def call(number):
             revisions = [registry.publish(f"a{number}", f"1.{minor}.0") for minor in range(50)]
-            answered[number] = revisions, registry.resolve({f"a{number}": "*"}).selected
+            return revisions, registry.resolve({f"a{number}": "*"}).selected
 
-        with self.open() as registry:
-            threads = [threading.Thread(target=call, args=(number,)) for number in range(8)]
-            for thread in threads:
-                thread.start()
-            for thread in threads:
-                thread.join(SECONDS)
-        self.assertEqual(sorted(revision for revisions, _ in answered.values() for revision in revisions),
-                         list(range(1, 401)))
-        self.assertEqual([answered[number][1] for number in range(8)],
-                         [{f"a{number}": "1.49.0"} for number in range(8)])
+        with self.open() as registry, ThreadPoolExecutor(8) as threads:
+            told, selected = zip(*threads.map(call, range(8)))
+        self.assertEqual(sorted(sum(told, [])), list(range(1, 401)))
+        self.assertEqual(list(selected), [{f"a{number}": "1.49.0"} for number in range(8)])
 
     def test_a_long_reply(self):
         # a derivation of more bytes than are taken at once: each of 1,500 versions is ruled out for a reason of its own
         with self.open() as registry:
-            for future in registry.many(Publish("a", f"{number}.0.0", {f"needed-by-version-{number}": "*"})
-                                        for number in range(1500)):
-                future.result(SECONDS)
+            accepted(registry, [Publish("a", f"{it}.0.0", {f"needed-by-version-{it}": "*"}) for it in range(1500)])
             why = registry.resolve({"a": "*"}, explain=True)
             self.assertGreater(len("".join(why.explanation)), 65_536)
             self.assertIs(registry.check({"a": "*"}, why.derivation), True)
@@ -233,27 +213,23 @@ class Values(client_python.Case):
         ]:
             self.assertEqual(registryd.requests.written(request), line.encode(errors="surrogateescape") + b"\n")
 
-    def check_example(self, at, journal, variables):
+    def check_example(self, at, **variables):
         """The example of a page does what is shown behind it."""
-        typed, printed = blocks("clients/README.md")[at:at + 2]
+        typed, shown = blocks("clients/README.md")[at:at + 2]
+        self.assertEqual(printed(typed.replace("./registryd", PROGRAM), self.folder, **variables), shown)
+        return typed
+
+    def check_again(self, at, journal, **variables):
         # the second time it goes on with its journal
         for _ in range(2):
-            done = subprocess.run([sys.executable, "-c", typed.replace("./registryd", PROGRAM)], cwd=self.folder,
-                                  env=variables, stdout=subprocess.PIPE, text=True, timeout=SECONDS)
-            self.assertEqual((done.returncode, done.stdout.strip()), (0, printed))
+            self.check_example(at, **variables)
             self.assertEqual(read(self.path(journal)).count('"name":"app"'), 1)
 
     def test_the_example(self):
-        self.check_example(0, "python.journal", PYTHON)
+        self.check_again(0, "python.journal")
 
     @needs_library
-    def test_the_example_in_process(self):
-        self.check_example(2, "embedded.journal", {**PYTHON, "REGISTRYD_LIBRARY": LIBRARY})
-
-    @needs_library
-    def test_the_example_of_seats(self):
-        typed, printed = blocks("clients/README.md")[4:6]
+    def test_the_examples_in_process(self):
+        self.check_again(2, "embedded.journal", REGISTRYD_LIBRARY=LIBRARY)
+        typed = self.check_example(4, REGISTRYD_LIBRARY=LIBRARY)
         self.assertLessEqual(len(typed.splitlines()), 11)
-        done = subprocess.run([sys.executable, "-c", typed], env={**PYTHON, "REGISTRYD_LIBRARY": LIBRARY},
-                              stdout=subprocess.PIPE, text=True, timeout=SECONDS, check=True)
-        self.assertEqual(done.stdout.strip(), printed)

@@ -7,12 +7,13 @@ import subprocess
 import sys
 import threading
 import time
+from concurrent.futures import ThreadPoolExecutor
 from unittest import mock
 
 import registryd
 from registryd import Accepted, BudgetSpent, Ended, List, Listing, NoSelection, Publish, Registry, Selection
 from tests.support.client_python import PYTHON, SECONDS, SOON, Case, other, pigeons
-from tests.support.processes import is_running
+from tests.support.processes import comes, is_running
 from tests.support.program import PROGRAM, TOP, heed_signals
 
 # What a program in Python prints as a reply to a command.
@@ -155,8 +156,8 @@ class Child(Case):
     def test_a_program_that_writes_one_reply_too_many(self):
         registry = other(f"{OK}\ntime.sleep(100)")
         registry._session._threads[2].join(SECONDS)
-        self.ends("the program wrote no reply", registry.list)
-        self.ends("the program wrote no reply", registry.close)
+        for call in (registry.list, registry.close):
+            self.ends("the program wrote no reply", call)
 
     @mock.patch.object(registryd.waiting, "WAITED", 0.05)
     def test_a_program_that_closes_its_ends(self):
@@ -252,12 +253,10 @@ with registryd.Registry({PROGRAM!r}) as registry:
         self.assertTrue(comes(lambda: not is_running(program)))
 
     def test_a_program_goes_on_where_the_thread_has_ended_that_began_it(self):
-        begun = []
-        thread = threading.Thread(target=lambda: begun.append(Registry(PROGRAM)))
-        thread.start()
-        thread.join(SECONDS)
+        with ThreadPoolExecutor(1) as thread:
+            registry = thread.submit(Registry, PROGRAM).result()
         time.sleep(0.1)
-        with begun[0] as registry:
+        with registry:
             self.assertEqual(registry.publish("a", "1.0.0"), 1)
 
     def test_an_interrupt_amid_a_search(self):
@@ -269,11 +268,3 @@ with registryd.Registry({PROGRAM!r}) as registry:
         self.assertLess(time.monotonic() - begun, SOON)
         self.assertEqual(told.splitlines()[-1], "KeyboardInterrupt")
         self.assertFalse(is_running(program))
-
-
-def comes(condition):
-    """Whether this comes true in time."""
-    limit = time.monotonic() + SECONDS
-    while not condition() and time.monotonic() < limit:
-        time.sleep(0.01)
-    return condition()

@@ -1,17 +1,17 @@
 """The client in Python over the library in this process: which library it takes, what it refuses to begin, and what
 becomes of sessions that are forgotten, forked, interrupted, or closed while a search runs."""
+import contextlib
 import os
 import shutil
-import subprocess
-import sys
 import threading
+from pathlib import Path
 from unittest import mock
 
 import pytest
 
 import registryd
 from registryd import Accepted, Ended, List, Listing, Publish, Registry, Resolve
-from tests.support.client_python import PYTHON, SECONDS, SOON, Case
+from tests.support.client_python import PYTHON, SOON, Case, accepted, printed
 from tests.support.library import LIBRARY, needs_library
 from tests.support.program import TOP
 
@@ -31,17 +31,14 @@ class Library(Case):
     def test_the_library_that_is_installed(self):
         client, library = self.path("share", "registryd", "clients", "python"), self.path("lib", "libregistryd.so")
         shutil.copytree(CLIENT, os.path.join(client, "registryd"))
-        variables = {name: value for name, value in os.environ.items() if name != "REGISTRYD_LIBRARY"}
-        command = [sys.executable, "-B", "-c", "import registryd; print(registryd.embedded.library_path(None))"]
 
         def taken():
-            return subprocess.run(command, cwd=client, env=variables, stdout=subprocess.PIPE, text=True,
-                                  check=True).stdout.strip()
+            script = "import registryd; print(registryd.embedded.library_path(None))"
+            return printed(script, client, REGISTRYD_LIBRARY="")
 
         self.assertEqual(taken(), "libregistryd.so")
         os.makedirs(os.path.dirname(library))
-        with open(library, "wb"):
-            pass
+        Path(library).touch()
         self.assertEqual(os.path.realpath(taken()), os.path.realpath(library))
 
     def test_a_library_that_is_not_there(self):
@@ -77,15 +74,9 @@ class Embedded(Case):
             self.assertEqual(other.list(), Listing(1, {"c": (("1.0.0", False),)}))
 
     def test_more_sessions_than_there_may_be(self):
-        opened = []
-        try:
-            with self.assertRaisesRegex(Ended, "as many sessions are open as may be"):
-                while True:
-                    opened.append(self.open())
-            self.assertLessEqual(len(opened), MOST)
-        finally:
-            for registry in opened:
-                registry.close()
+        with contextlib.ExitStack() as opened, self.assertRaisesRegex(Ended, "as many sessions are open as may be"):
+            for _ in range(MOST + 1):
+                opened.enter_context(self.open())
         self.open().close()
 
     def test_sessions_that_are_forgotten_are_closed(self):
@@ -117,8 +108,7 @@ class Embedded(Case):
 
     def test_a_call_that_was_interrupted_leaves_no_reply_to_the_next(self):
         registry = self.open()
-        for future in registry.many(Publish("a", f"{number}.0.0") for number in range(4000)):
-            future.result(SECONDS)
+        accepted(registry, [Publish("a", f"{number}.0.0") for number in range(4000)])
         library = registry._session._library
 
         def interrupted(*given):
@@ -164,11 +154,9 @@ try:
 except TimeoutError as told:
     print(time.monotonic() - begun < {SOON}, told, flush=True)
 """
-        given = {**PYTHON, "PYTHONPATH": os.pathsep.join([PYTHON["PYTHONPATH"], TOP])}
-        done = subprocess.run([sys.executable, "-c", script], cwd=self.folder, env=given, stdout=subprocess.PIPE,
-                              text=True, timeout=SECONDS)
+        path = os.pathsep.join([PYTHON["PYTHONPATH"], TOP])
         told = "a search of the session still runs after 0.2 seconds, and can't be ended in this process"
-        self.assertEqual((done.returncode, done.stdout.strip()), (0, f"True {told}"))
+        self.assertEqual(printed(script, self.folder, PYTHONPATH=path), f"True {told}")
         # nothing that was told is lost
         with self.open(journal=self.path("a.journal")) as registry:
             self.assertEqual(registry.list().revision, 15 * 14 * 2)

@@ -67,10 +67,7 @@ class Steps:
 
 
 class Stepped:
-    """Each kind of call is interrupted at each of its steps, and the session used on."""
-
-    def open(self):
-        raise NotImplementedError
+    """Each kind of call is interrupted at each of its steps, and the session, which `open` begins, used on."""
 
     def setUp(self):
         super().setUp()
@@ -220,8 +217,7 @@ class WithService(Stepped, Case):
 
 
 class Signals(Case):
-    def interrupted(self, registry, call):
-        """Makes a call, which a signal's handler interrupts."""
+    def interrupted(self, call):
         def handler(*_):
             raise Broken
         self.addCleanup(signal.signal, signal.SIGUSR1, signal.signal(signal.SIGUSR1, handler))
@@ -234,8 +230,8 @@ class Signals(Case):
         with Registry(PROGRAM) as registry:
             registry.publish("a", "1.0.0")
             os.kill(registry._session._process.pid, signal.SIGSTOP)
-            self.interrupted(registry, lambda: registry.publish("b", "1.0.0"))
-            self.interrupted(registry, registry.ask(Publish("c", "1.0.0")).result)
+            self.interrupted(lambda: registry.publish("b", "1.0.0"))
+            self.interrupted(registry.ask(Publish("c", "1.0.0")).result)
             os.kill(registry._session._process.pid, signal.SIGCONT)
             self.assertEqual(registry.resolve({"b": "*"}), Selection(3, {"b": "1.0.0"}))
             self.assertEqual(registry.publish("d", "1.0.0"), 4)
@@ -245,7 +241,7 @@ class Signals(Case):
         registry = Registry(PROGRAM, save=path)
         os.kill(registry._session._process.pid, signal.SIGSTOP)
         future = registry.ask(Publish("a", "1.0.0"))
-        self.interrupted(registry, registry.close)
+        self.interrupted(registry.close)
         os.kill(registry._session._process.pid, signal.SIGCONT)
         registry.close()
         self.assertEqual(future.result(0), Accepted(1))

@@ -9,7 +9,7 @@ import sys
 import unittest
 
 import registryd
-from tests.support.client_python import SECONDS, Case, read
+from tests.support.client_python import SECONDS, Case, printed, read
 from tests.support.program import PROGRAM, TOP
 
 SCRIPT = """
@@ -37,8 +37,8 @@ class Package(Case):
     @unittest.skipUnless(builder(), "no Python has pip, setuptools and wheel (Debian: python3-pip)")
     def test_it_is_installed_and_used(self):
         # pip builds in the folder of the sources
-        sources, there = shutil.copytree(os.path.join(TOP, "clients", "python"),
-                                         self.path("python")), self.path("there")
+        sources = shutil.copytree(os.path.join(TOP, "clients", "python"), self.path("python"))
+        there = self.path("there")
         options = ["--quiet", "--no-build-isolation", "--no-deps", "--no-index", "--disable-pip-version-check",
                    "--root-user-action=ignore"]
         subprocess.run([builder(), "-m", "pip", "install", *options, "--target", there, sources], check=True,
@@ -48,10 +48,7 @@ class Package(Case):
             wanted = {it for it in os.listdir(os.path.join(TOP, "clients", "python", package)) if it != "__pycache__"}
             self.assertEqual({it for it in os.listdir(os.path.join(there, package)) if it != "__pycache__"}, wanted)
             self.assertIn("py.typed", wanted)
-        done = subprocess.run([sys.executable, "-c", SCRIPT.format(program=PROGRAM)], cwd=self.folder,
-                              env={**os.environ, "PYTHONPATH": there},
-                              stdout=subprocess.PIPE, text=True, timeout=SECONDS, check=True)
-        self.assertEqual(done.stdout.split(),
+        self.assertEqual(printed(SCRIPT.format(program=PROGRAM), self.folder, PYTHONPATH=there).split(),
                          [registryd.__version__, os.path.join(there, "registryd", "__init__.py"), "=1"])
 
     def test_what_is_exported_is_there_and_nothing_of_a_page_is_left_out(self):
@@ -64,9 +61,5 @@ class Package(Case):
         self.assertLessEqual(imported, {*registryd.__all__})
 
     def test_the_faults_of_lines_are_read_only_for_a_refusal(self):
-        code = "import sys, registryd; print('registryd_lines' in sys.modules)"
-        done = subprocess.run([sys.executable, "-c", code],
-                              env={**os.environ, "PYTHONPATH": os.path.join(TOP, "clients", "python")},
-                              stdout=subprocess.PIPE, text=True, timeout=SECONDS, check=True)
-        self.assertEqual(done.stdout, "False\n")
+        self.assertEqual(printed("import sys, registryd; print('registryd_lines' in sys.modules)"), "False")
         self.assertIsNotNone(importlib.util.find_spec("registryd_lines"))

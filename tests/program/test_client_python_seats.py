@@ -5,6 +5,7 @@ import json
 import threading
 import time
 from concurrent.futures import ThreadPoolExecutor
+from pathlib import Path
 
 import pytest
 
@@ -80,12 +81,10 @@ class Seats(client_python.Case):
         return opened
 
     def read(self, path):
-        with open(path, "rb") as file:
-            return file.read()
+        return Path(path).read_bytes()
 
     def begun(self, name, text):
-        with open(self.path(name), "wb") as file:
-            file.write(text)
+        Path(self.path(name)).write_bytes(text)
         return self.path(name)
 
     def test_a_journal_that_is_full(self):
@@ -216,8 +215,7 @@ class Seats(client_python.Case):
 
     def test_a_journal_that_is_longer_than_what_is_taken_at_once(self):
         seat, = self.open(1)
-        for future in seat.many(registryd.Publish("a", f"{number}.0.0") for number in range(2000)):
-            future.result(0)
+        client_python.accepted(seat, [registryd.Publish("a", f"{number}.0.0") for number in range(2000)])
         text = seat.journal()
         self.assertEqual(text, journal([publish("a", f"{number}.0.0") for number in range(2000)]))
         self.assertGreater(len(text), registryd.embedded.ROOM)

@@ -8,10 +8,10 @@ import re
 import registryd
 from registry_cli.packages import registry_of
 from registryd import (
-    Accepted, Check, Line, Listing, NoSelection, NothingSelected, Publish, Refusal, Registry, Resolve, Unyank, Yank)
+    Check, Line, Listing, NoSelection, NothingSelected, Publish, Refusal, Registry, Resolve, Unyank, Yank)
 from registryd.tree import External, tree
 from tests.program.test_check_derivation import tangle
-from tests.support.client_python import SECONDS, Case
+from tests.support.client_python import SECONDS, Case, accepted
 from tests.support.client_rows import CULPRITS, EXPLAINED, PUBLISHED
 from tests.support.program import PROGRAM, serve
 from tests.support.read_english import Reader
@@ -93,8 +93,7 @@ class Told(Case):
         self.assertGreater(len(CULPRITS), 30)
         rows = [*((Line(json.dumps(asked).encode()), *rest, "") for asked, *rest in CULPRITS), *MORE]
         with self.open() as registry:
-            for line in PUBLISHED:
-                self.assertIsInstance(registry.ask(Line(line.encode())).result(SECONDS), Accepted)
+            accepted(registry, [Line(line.encode()) for line in PUBLISHED])
             for request, error, *wanted, told in rows:
                 with self.subTest(request=request), self.assertRaises(Refusal) as caught:
                     registry.ask(request).result(SECONDS)
@@ -179,14 +178,13 @@ class Told(Case):
             commands, _ = tangle(rng)
             registry = registry_of(commands, {it["name"] for it in commands})
             requests = [{**tangle(rng)[1], "explain": True} for _ in range(12)]
-            for request, reply in zip(requests,
-                                      map(json.loads,
-                                          serve([json.dumps(it) for it in [*commands, *requests]])[len(commands):])):
+            replies = serve([json.dumps(it) for it in [*commands, *requests]])[len(commands):]
+            for request, reply in zip(requests, map(json.loads, replies)):
                 if "refused" in reply:
                     told = [re.fullmatch(r"(.*\.)(?: \((\d+)\))?", it).groups()
                             for it in tree(reply["explanation"]).sentences()]
-                    concluded = Reader(registry,
-                                       request).read([(number and int(number), text) for text, number in told])
+                    steps = [(number and int(number), text) for text, number in told]
+                    concluded = Reader(registry, request).read(steps)
                     self.assertEqual((len(concluded), concluded[-1]), (len(reply["derivation"]), {}))
                     count += 1
         self.assertGreater(count, 300)
@@ -200,8 +198,7 @@ class Told(Case):
     def test_a_tree_that_is_deep(self):
         # each version is ruled out for a reason of its own, so a line rests on the line before it
         with self.open() as registry:
-            for future in registry.many(Publish("a", f"{number}.0.0", {f"n{number}": "*"}) for number in range(1500)):
-                future.result(SECONDS)
+            accepted(registry, [Publish("a", f"{number}.0.0", {f"n{number}": "*"}) for number in range(1500)])
             nodes = self.walked(registry, {"a": "*"})
             self.assertEqual({it.target for it in nodes if isinstance(it, External) and it.kind == "premise"},
                              {f"n{number}" for number in range(1500)})

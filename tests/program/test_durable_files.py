@@ -11,7 +11,7 @@ from registry_cli.limits import MOST_COMMANDS, MOST_LINE_BYTES, MOST_VERSIONS
 from tests.program.test_journals import CHAIN, Sessions, damaged, journal, learn, random_journal
 from tests.support.durable_sessions import Client
 from tests.support.plain_remnant import NoRemnant, remnant
-from tests.support.program import LIST, PROGRAM, journal_line, publish, run, unyank, yank
+from tests.support.program import LIST, PROGRAM, SERVE, journal_line, publish, run, unyank, yank
 
 ACCEPTED = '{"ok":true,"revision":%d}\n'
 LEARNT = journal([*CHAIN, learn(0), yank("c", "1.0.0"), unyank("c", "1.0.0")])
@@ -24,10 +24,6 @@ BEGUN = journal([publish("a", "1.0.0")]).removesuffix(b"end 1\n")
 
 class Keeping(Sessions):
     """Sessions that keep a journal in one file."""
-
-    def setUp(self):
-        super().setUp()
-        self.kept = os.path.join(self.folder, "kept")
 
     def keep(self, lines=(), workers="1", path=None):
         """The replies of a session that ends well."""
@@ -140,9 +136,9 @@ class Others(Keeping):
         super().setUp()
         self.there = os.path.join(self.folder, "there")
 
-    def talking(self):
+    def talking(self, path=None, **more):
         """A client whose first publication is accepted."""
-        client = Client(["serve", "--workers", "1", "--journal", self.kept])
+        client = Client([*SERVE, "--journal", path or self.kept], **more)
         client.send([publish("a", "1.0.0")])
         self.assertTrue(client.read_until(1))
         return client
@@ -230,9 +226,7 @@ class Others(Keeping):
         self.write(self.kept, b"")
         with open(self.kept, "rb") as file:
             path = f"/dev/fd/{file.fileno()}"
-            client = Client(["serve", "--workers", "1", "--journal", path], pass_fds=[file.fileno()])
-            client.send([publish("a", "1.0.0")])
-            self.assertTrue(client.read_until(1))
+            client = self.talking(path, pass_fds=[file.fileno()])
             os.unlink(self.kept)
             client.send([publish("b", "1.0.0")])
             self.assertEqual(client.leave(), (1, (CHANGED % path).encode()))

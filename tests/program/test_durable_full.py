@@ -9,10 +9,10 @@ import tempfile
 import pytest
 
 from tests.program.test_journals import CONFLICT, Sessions, journal
-from tests.support.durable_sessions import Client, fault_of
+from tests.support.durable_sessions import Client, fault_of, journal_lines
 from tests.support.plain_remnant import remnant
 from tests.support.preloaded import BREAK_CALLS, Break, built
-from tests.support.program import LIST, files_of_at_most, journal_line, publish, resolve, run, serve, yank
+from tests.support.program import LIST, SERVE, files_of_at_most, publish, resolve, run, serve, yank
 
 pytestmark = pytest.mark.not_quick("full disks")
 STEPS = [CONFLICT[:1], CONFLICT[1:], [resolve("foo >=1.0.0")], [LIST], [yank("foo", "2.0.0"), publish("z", "1.0.0")]]
@@ -40,7 +40,6 @@ class Full(Sessions):
 
     def setUp(self):
         super().setUp()
-        self.kept = os.path.join(self.folder, "kept")
         # many sessions are asked the same
         self.replies = functools.cache(lambda *lines: serve(lines))
 
@@ -61,17 +60,15 @@ class Full(Sessions):
     def all_told_is_there(self, path, client, told, words, lines, before=()):
         """What a session left that could not write: some of its replies, all of which rest on what is there."""
         self.assertTrue(client.read.endswith(b"\n") or not client.read)
-        self.assertEqual(client.replies(),
-                         self.replies(*before, *lines)[len(before):len(before) + len(client.replies())])
+        replies = client.replies()
+        self.assertEqual(replies, self.replies(*before, *lines)[len(before):len(before) + len(replies)])
         self.assertEqual(told, (1, f"registryd: journal {path}: can't be written: {words}\n".encode()))
-        self.assertIsNone(fault_of(self.read(path), lines, len(client.replies()),
-                                   [journal_line(line).encode() for line in before]))
+        self.assertIsNone(fault_of(self.read(path), lines, len(replies), journal_lines(before)))
 
     def goes_on(self, path, lines, before=()):
         """Once there is room, the next session goes on with what is there, and then has what one session has."""
         found = remnant(self.read(path))
-        done = run(["serve", "--workers", "1", "--journal", path],
-                   "".join(line + "\n" for line in [*lines, LIST]).encode())
+        done = run([*SERVE, "--journal", path], "".join(line + "\n" for line in [*lines, LIST]).encode())
         self.assertEqual((done.returncode, done.stderr), (0, b""))
         self.assertEqual(done.stdout.splitlines()[-1].decode(), self.replies(*before, *lines, LIST)[-1])
         text = self.read(path)
@@ -136,7 +133,7 @@ class Failing(Sessions):
         cls.library = built(cls, BREAK_CALLS)
 
     def test_each_call_that_fails(self):
-        kept, failures = os.path.join(self.folder, "kept"), {}
+        kept, words, failed = self.kept, ["serve", "--workers", "4", "--journal", self.kept], set()
         wanted = serve([*CONFLICT[:2], *LINES[2:]])[2:]
         given = "".join(line + "\n" for line in LINES[2:]).encode()
         for call, error in (("open", "EMFILE"), ("flock", "ENOLCK"), *((look, "EIO") for look in self.LOOKS),
@@ -144,22 +141,21 @@ class Failing(Sessions):
                             ("fsync", "EIO"), ("fdatasync", "EIO"), ("fdatasync", "ENOSPC"), ("close", "EIO")):
             for number in range(1, 60):
                 self.write(kept, journal(CONFLICT[:2], 1)[:-2])
-                done, came = Break(call, number, error).run(self.library,
-                                                            ["serve", "--workers", "4", "--journal", kept], given)
+                done, came = Break(call, number, error).run(self.library, words, given)
                 if not came:
                     break
                 at, replies = (call, error, number), done.stdout.decode().split("\n")
                 self.assertEqual(replies.pop(), "", at)
                 self.assertEqual(replies, wanted[:len(replies)], at)
-                self.assertIsNone(fault_of(self.read(kept), LINES[2:], len(replies),
-                                           [journal_line(line).encode() for line in CONFLICT[:2]]), at)
+                fault = fault_of(self.read(kept), LINES[2:], len(replies), journal_lines(CONFLICT[:2]))
+                self.assertIsNone(fault, at)
                 if done.returncode:
                     self.assertEqual(done.stderr.count(b"\n"), 1, at)
                     of_file = rf"journal {kept}: can't be \w+: .* \(os error \d+\)"
                     self.assertRegex(done.stderr.decode(), rf"^registryd: ((in|out)put failed|{of_file})\n$", at)
-                    failures[call] = failures.get(call, 0) + 1
+                    failed.add(call)
                 else:
                     self.assertEqual((done.stderr, replies), (b"", wanted), at)
             self.assertGreater(number, 1, call)
-        self.assertEqual(set(failures),
-                         {"open", "flock", *self.LOOKS, "read", "ftruncate", "lseek", "write", "fsync", "fdatasync"})
+        self.assertEqual(failed, {"open", "flock", *self.LOOKS, "read", "ftruncate", "lseek", "write", "fsync",
+                                  "fdatasync"})

@@ -4,16 +4,14 @@ import functools
 import json
 import os
 import signal
-import subprocess
-import tempfile
 import unittest
 from pathlib import Path
 
 from tests.program.test_journals import CONFLICT, journal
-from tests.support.durable_sessions import Watched, fault_of
+from tests.support.durable_sessions import Watched, fault_of, journal_lines
 from tests.support.plain_disk import Disk
 from tests.support.plain_remnant import remnant
-from tests.support.preloaded import MEMORY, WATCH_CALLS, built
+from tests.support.preloaded import NO_SYNC, WATCH_CALLS, built, in_memory
 from tests.support.program import LIST, in_time, journal_line, publish, resolve, run, serve, unyank, yank
 from tests.support.reference import Registry
 
@@ -25,7 +23,6 @@ OLD = [publish("old", "1.0.0", ["a *"]), yank("old", "1.0.0")]
 # What a file may have before: nothing, a whole journal of the first format, a beginning of one of the second.
 STARTS = {"none": (None, []), "whole": (journal(OLD, 1), OLD), "cut": (journal(OLD)[:-9], OLD[:1])}
 NAME = "kept.journal"
-NO_SYNC = "int fdatasync(int file) { return file < 0; }\nint fsync(int file) { return file < 0; }\n"
 
 
 def went_out(text):
@@ -37,7 +34,7 @@ def went_out(text):
 def fault_left(left, count, start):
     """What is wrong where a crash leaves this of a file, and so many replies went out; it is asked again and again for
     what other orders have in common."""
-    return fault_of(left, LINES, count, [journal_line(line).encode() for line in STARTS[start][1]])
+    return fault_of(left, LINES, count, journal_lines(STARTS[start][1]))
 
 
 def crash_fault(calls, folder, start):
@@ -64,8 +61,7 @@ class Kills(unittest.TestCase):
         cls.library = built(cls, WATCH_CALLS)
 
     def setUp(self):
-        folder = tempfile.TemporaryDirectory(dir=MEMORY if os.path.isdir(MEMORY) else None)
-        self.folder = os.path.realpath(self.enterContext(folder))
+        self.folder = os.path.realpath(self.enterContext(in_memory()))
         self.path = os.path.join(self.folder, NAME)
 
     def is_folder(self, given, folder="."):
@@ -74,8 +70,7 @@ class Kills(unittest.TestCase):
         return os.path.realpath(os.path.join(self.folder, os.fsdecode(given))) == wanted
 
     def begin(self, start):
-        if os.path.exists(self.path):
-            os.unlink(self.path)
+        Path(self.path).unlink(missing_ok=True)
         if STARTS[start][0] is not None:
             self.write(STARTS[start][0])
 
@@ -117,7 +112,7 @@ class Kills(unittest.TestCase):
         kills = 0
         for start, workers in (("none", "1"), ("whole", "4"), ("cut", "4")):
             calls, replies = self.whole_session(start, workers)
-            before = [journal_line(line).encode() for line in STARTS[start][1]]
+            before = journal_lines(STARTS[start][1])
             for number, call in enumerate(calls, 1):
                 for side in ("before", "behind", *(["amid"] if call.name == "write" else [])):
                     status, _, _, read = self.session(start, workers, kill=number, side=side)
@@ -147,8 +142,7 @@ class Kills(unittest.TestCase):
                 self.goes_on(len(before))
 
     def test_a_program_that_syncs_nothing_is_found(self):
-        library = os.path.join(self.folder, "idle.so")
-        subprocess.run(["cc", "-shared", "-fPIC", "-x", "c", "-", "-o", library], input=NO_SYNC.encode(), check=True)
+        library = built(type(self), NO_SYNC)
         for start in STARTS:
             status, _, calls, _ = self.session(start, before=[library])
             self.assertEqual(status, 0)

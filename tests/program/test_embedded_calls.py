@@ -3,11 +3,10 @@ forked, threads at one session; by itself, under valgrind, and under the sanitiz
 import os
 import subprocess
 import tempfile
-import unittest
 
 import pytest
 
-from tests.support.library import TESTS, linked, linked_with_sources, needs_library
+from tests.support.library import TESTS, Caller, linked, linked_with_sources, needs_library
 from tests.support.program import PROGRAM, skip_without
 
 pytestmark = pytest.mark.not_quick("the static library")
@@ -22,13 +21,9 @@ VALGRIND = ["valgrind", "-q", "--error-exitcode=99", "--leak-check=full", "--err
 
 @needs_library
 @skip_without("cc", "gcc")
-class Calls(unittest.TestCase):
+class Calls(Caller):
     LONGEST = PATIENCE  # under valgrind
     SOURCE, KINDS = CALLS, ("calls", "forks", "forks beside a thread", "threads")
-
-    def setUp(self):
-        self.folder = self.enterContext(tempfile.TemporaryDirectory())
-        self.caller = os.path.join(self.folder, "caller")
 
     def tried(self, *what, before=()):
         """The calls of such a kind hold, and nothing is said."""

@@ -4,31 +4,17 @@ program's own tests."""
 import pytest
 
 from tests.program import test_durable_full, test_durable_replies
-from tests.program.test_journals import CONFLICT
-from tests.support.in_process import InProcess
-from tests.support.program import LIST, publish, resolve
+from tests.support.in_process import InProcess, in_process
+from tests.support.program import LIST
 
 pytestmark = pytest.mark.not_quick("the static library")
-
-
-class Full(InProcess, test_durable_full.Full):
-    pass
-
-
-class Failing(InProcess, test_durable_full.Failing):
-    LOOKS = ("fstat", "stat")
+Full = in_process(test_durable_full.Full)
+Failing = in_process(test_durable_full.Failing)
 
 
 class Replies(InProcess, test_durable_replies.Replies):
     """A call that feeds lines returns when all of them are answered."""
-
-    def test_at_most_one_sync_for_what_a_request_taught(self):
-        request = resolve("foo >=1.0.0")
-        first, *taught, published, listed = self.syncs([CONFLICT, [request], [request],
-                                                        [publish("a", "1.0.0")], [LIST]])
-        self.assertEqual((first, published, listed), (1, 1, 0))
-        self.assertLessEqual(sum(taught), 1)
-        self.assertIn(b'\n{"derivation":', self.read(self.kept))
+    TAUGHT = [0, 0], [1, 0], [0, 1]
 
     def test_a_reply_does_not_wait_for_what_it_taught(self):
         # the reply to a later line does

@@ -7,7 +7,7 @@ import pytest
 
 from tests.program.test_journals import CHAIN_LEARNT, CONFLICT, Sessions, journal
 from tests.support.library import needs_library, serving
-from tests.support.program import PROGRAM, run
+from tests.support.program import PROGRAM, SERVE, run
 from tests.support.tables import tables_under
 
 pytestmark = pytest.mark.not_quick("the static library")
@@ -22,13 +22,12 @@ class Lines(Sessions):
 
     def setUp(self):
         super().setUp()
-        self.kept, self.theirs = os.path.join(self.folder, "kept"), os.path.join(self.folder, "theirs")
+        self.theirs = os.path.join(self.folder, "theirs")
 
     def in_process(self, words, given, piece=65_536):
         """What a session in process says, how it ends, and what it tells."""
-        done = subprocess.run([self.serve, "serve", *words], input=given,
-                              env={**os.environ, "EMBEDDED_PIECE": str(piece)},
-                              capture_output=True, timeout=100)
+        done = subprocess.run([self.serve, "serve", *words], input=given, capture_output=True, timeout=100,
+                              env={**os.environ, "EMBEDDED_PIECE": str(piece)})
         return done.stdout, done.returncode, done.stderr
 
     def test_every_table(self):
@@ -78,20 +77,19 @@ class Lines(Sessions):
 
     def test_the_program_and_a_session_in_process_exclude_each_other(self):
         told = f"registryd: journal {self.kept}: in use by another session\n".encode()
+        words, pipe = [*SERVE, "--journal", self.kept], subprocess.PIPE
         for one, other in ((PROGRAM, self.serve), (self.serve, PROGRAM)):
-            with subprocess.Popen([one, "serve", "--workers", "1", "--journal", self.kept], stdin=subprocess.PIPE,
-                                  stdout=subprocess.PIPE, bufsize=0) as holder:
+            with subprocess.Popen([one, *words], stdin=pipe, stdout=pipe, bufsize=0) as holder:
                 holder.stdin.write(b'{"op":"list"}\n')
                 self.assertTrue(holder.stdout.readline())
-                done = subprocess.run([other, "serve", "--workers", "1", "--journal", self.kept], input=b"",
-                                      capture_output=True, timeout=100)
+                done = subprocess.run([other, *words], input=b"", capture_output=True, timeout=100)
                 self.assertEqual((done.returncode, done.stdout, done.stderr), (1, b"", told))
                 holder.stdin.close()
                 self.assertEqual(holder.wait(), 0)
 
     def test_each_goes_on_with_what_the_other_left(self):
         given = [line.encode() + b"\n" for line in CONFLICT]
-        ways = (lambda line: run(["serve", "--workers", "1", "--journal", self.kept], line).stdout,
+        ways = (lambda line: run([*SERVE, "--journal", self.kept], line).stdout,
                 lambda line: self.in_process(["--journal", self.kept], line)[0])
         for number, line in enumerate(given):
             self.assertEqual(ways[number % 2](line), b'{"ok":true,"revision":%d}\n' % (number + 1))

@@ -5,11 +5,11 @@ from unittest import mock
 
 import pytest
 
-from tests.program.test_memory import BETWEEN, LAST_RUNS, LINES, MOST_REQUESTS, NO_MEMORY
-from tests.program.test_memory import commands_in, commands_told, missed, text_of
+from tests.program.test_memory import (
+    BETWEEN, LINES, NO_MEMORY, commands_in, commands_told, each_until_none, missed)
 from tests.support.library import needs_library, serving
 from tests.support.plain_remnant import remnant
-from tests.support.preloaded import REFUSE_MEMORY, built, each_refused
+from tests.support.preloaded import REFUSE_MEMORY, built
 from tests.support.program import LIST, run
 
 pytestmark = pytest.mark.not_quick("the static library")
@@ -28,20 +28,15 @@ class Memory(unittest.TestCase):
     def refuse_each(self, words, lines):
         """Runs a session with each request refused in turn; answers what each run left, the lawful replies that it
         gave, and how many of them are 18: one at most."""
-        behind = number = 0
         with mock.patch.dict("os.environ", EMBEDDED_PIECE=PIECE):
-            for done in each_refused(self.library, [self.serve, "serve", *words], text_of(lines).encode(),
-                                     range(1, MOST_REQUESTS), LAST_RUNS):
-                behind, number = 0 if done.came else behind + 1, done.number
-                replies = tuple(done.stdout.decode().split("\n")[:-1])
-                self.assertIn((done.returncode, done.stderr), ((0, b""), (1, NO_MEMORY)), number)
-                self.assertTrue(done.came or done.returncode == 0, number)
+            for done, replies in each_until_none(self.library, [self.serve, "serve", *words], lines):
+                self.assertIn((done.returncode, done.stderr), ((0, b""), (1, NO_MEMORY)), done.number)
+                self.assertTrue(done.came or done.returncode == 0, done.number)
                 if done.returncode == 0:
-                    self.assertEqual(len(replies), len(lines), number)
+                    self.assertEqual(len(replies), len(lines), done.number)
                 short = len(missed(tuple(lines), replies))
-                self.assertLessEqual(short, 1, number)
+                self.assertLessEqual(short, 1, done.number)
                 yield done, replies, short
-        self.assertEqual(behind, LAST_RUNS, f"no end of requests at {number}")
 
     def test_each_request_of_a_session(self):
         early = short = 0

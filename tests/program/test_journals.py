@@ -65,7 +65,7 @@ def between_batches(lines, cut):
 class Sessions(unittest.TestCase):
     def setUp(self):
         self.folder = self.enterContext(tempfile.TemporaryDirectory())
-        self.loaded, self.saved = os.path.join(self.folder, "loaded"), os.path.join(self.folder, "saved")
+        self.loaded, self.saved, self.kept = (os.path.join(self.folder, it) for it in ("loaded", "saved", "kept"))
 
     def write(self, path, text):
         Path(path).write_bytes(text)

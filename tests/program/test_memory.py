@@ -99,7 +99,6 @@ def batch_at(lines, place):
 
 
 def commands_in(saved):
-    """The commands of a journal's text."""
     return [line for line in saved.decode().split("\n")[1:-2] if not line.startswith('{"derivation"')]
 
 
@@ -112,6 +111,16 @@ def text_of(lines):
     return "".join(f"{line}\n" for line in lines)
 
 
+def each_until_none(library, command, lines):
+    """Runs a command on these lines with each request refused in turn, until there are no more; yields what each run
+    left, and its replies."""
+    behind = number = 0
+    for done in each_refused(library, command, text_of(lines).encode(), range(1, MOST_REQUESTS), LAST_RUNS):
+        behind, number = 0 if done.came else behind + 1, done.number
+        yield done, tuple(done.stdout.decode().split("\n")[:-1])
+    assert behind == LAST_RUNS, f"no end of requests at {number}"
+
+
 class Memory(unittest.TestCase):
     @classmethod
     def setUpClass(cls):
@@ -119,20 +128,16 @@ class Memory(unittest.TestCase):
 
     def refuse_each(self, words, lines=()):
         """Runs the program with each request refused in turn; answers its number, what it left, and its replies."""
-        behind = number = 0
-        for done in each_refused(self.library, [PROGRAM, *words], text_of(lines).encode(),
-                                 range(1, MOST_REQUESTS), LAST_RUNS):
-            behind, number = 0 if done.came else behind + 1, done.number
+        for done, replies in each_until_none(self.library, [PROGRAM, *words], lines):
             if done.stderr == NO_MEMORY:
                 # before the first line there is nothing to answer, and nothing is saved
-                self.assertEqual((done.returncode, done.stdout, done.left("saved")), (1, b"", None), number)
+                self.assertEqual((done.returncode, done.stdout, done.left("saved")), (1, b"", None), done.number)
             elif done.returncode:
                 self.assertEqual((done.returncode, done.stderr, done.left("saved")),
-                                 (1, b"registryd: output failed\n", None), number)
+                                 (1, b"registryd: output failed\n", None), done.number)
             else:
-                self.assertEqual(done.stderr, b"", number)
-            yield number, done, tuple(done.stdout.decode().split("\n")[:-1])
-        self.assertEqual(behind, LAST_RUNS, f"no end of requests at {number}")
+                self.assertEqual(done.stderr, b"", done.number)
+            yield done.number, done, replies
 
     def refuse_each_of_a_session(self, words, lines):
         """Refuses each request of a session in turn. Answers how many runs missed it before the first line, how many at
@@ -197,11 +202,8 @@ class Memory(unittest.TestCase):
     def refuse_each_of_a_race(self, *files):
         """Refuses each request of a race of these files in turn. Answers where the request of each run was missed: 0
         before the first line, 1 at a line, 2 behind the last; and the seats and lines that were answered 18."""
-        words, asked, where, all_short = ["race"], [[line.encode() for line in lines] for lines in files], [], []
-        for number, lines in enumerate(files):
-            words.append(os.path.join(self.folder, str(number)))
-            Path(words[-1]).write_text(text_of(lines), encoding="ascii")
-        for number, done, replies in self.refuse_each(words):
+        asked, where, all_short = [[line.encode() for line in lines] for lines in files], [], []
+        for number, done, replies in self.refuse_each(["race", *plain_race.written(self.folder, asked)]):
             told_of = plain_race.told_in(asked, list(replies)) if replies else []
             short = [(it.seat, it.line.decode()) for it in told_of if '"error":18' in it.reply]
             # one request is refused, so one line at most, or the end, shows it

@@ -11,13 +11,13 @@ import time
 import unittest
 from pathlib import Path
 
-from tests.program.test_memory import commands_in
+from tests.program.test_memory import commands_in, text_of
 from tests.program.test_race import ACCEPTED, JOURNAL, REPEATED
 from tests.support import plain_race
-from tests.support.program import LIST, PROGRAM, in_time, journal_line, publish, resolve, run
+from tests.support.program import LIST, PROGRAM, SERVE, in_time, journal_line, publish, resolve, run
 from tests.support.registry_folder import pigeons
 
-HOLES, BIRDS = pigeons(13)
+HOLES, BIRDS = pigeons(13)  # that they don't all fit shows in a search that takes all memory
 ALL = resolve(*(f"{bird} *" for bird in BIRDS))
 # Kilobytes of all memory that a program may have, of what a race of two short files may be found to take, and of what
 # each file may add: two tables of 64, of names and of requirements that were read before.
@@ -27,11 +27,6 @@ PIPE = 4_096  # bytes
 CONFLICTS = 16_000
 # Decisions of a newest selection, and the kilobytes of all memory in which it is found.
 LADDERS = (1_000, 32_000), (2_000, 64_000)
-
-
-def holes():
-    """The pigeons' publications: that they don't all fit shows in a search that takes all memory."""
-    return HOLES
 
 
 def ladder(rungs):
@@ -58,50 +53,46 @@ def within(kilobytes):
 
 def served_within(kilobytes, lines, *words):
     """The replies of a session that ends well in so much memory."""
-    done = run(["serve", *(words or ("--workers", "1"))], "".join(f"{line}\n" for line in lines).encode(),
-               preexec_fn=within(kilobytes))
+    done = run(["serve", *(words or SERVE[1:])], text_of(lines).encode(), preexec_fn=within(kilobytes))
     assert (done.returncode, done.stderr) == (0, b"")
     return done.stdout.decode().split("\n")[:-1]
 
 
 class Searches(unittest.TestCase):
     def asked(self):
-        """Lines, and what each of those behind the publications is answered."""
+        """What is asked behind the publications, each with its reply."""
         revision = len(HOLES)
         short = f'{{"error":18,"name":"NoMemory","revision":{revision}}}'
         chosen = '"selected":[["hole-11","0.0.0"],["pigeon-0","11.0.0"]]'
-        return HOLES, [(ALL, short), (resolve("pigeon-0 *"), f'{{"revision":{revision},{chosen}}}'), (ALL, short),
-                       (resolve("pigeon-0 ^99"), f'{{"refused":true,"revision":{revision}}}'), (ALL, short),
-                       (publish("more", "1.0.0"), f'{{"ok":true,"revision":{revision + 1}}}'),
-                       (resolve("more *"), f'{{"revision":{revision + 1},"selected":[["more","1.0.0"]]}}')]
+        return [(ALL, short), (resolve("pigeon-0 *"), f'{{"revision":{revision},{chosen}}}'), (ALL, short),
+                (resolve("pigeon-0 ^99"), f'{{"refused":true,"revision":{revision}}}'), (ALL, short),
+                (publish("more", "1.0.0"), f'{{"ok":true,"revision":{revision + 1}}}'),
+                (resolve("more *"), f'{{"revision":{revision + 1},"selected":[["more","1.0.0"]]}}')]
 
     def test_a_session_goes_on(self):
-        published, asked = self.asked()
-        lines = [*published, *(line for line, _ in asked)]
+        asked = self.asked()
+        lines = [*HOLES, *(line for line, _ in asked)]
         for workers in ("1", "4"):
             with tempfile.TemporaryDirectory() as folder:
                 saved = os.path.join(folder, "saved")
                 replies = served_within(LIMIT, lines, "--workers", workers, "--save", saved)
-                accepted = [f'{{"ok":true,"revision":{number}}}' for number in range(1, len(published) + 1)]
+                accepted = [f'{{"ok":true,"revision":{number}}}' for number in range(1, len(HOLES) + 1)]
                 self.assertEqual(replies, [*accepted, *(reply for _, reply in asked)])
-                with open(saved, "rb") as file:
-                    self.assertEqual(commands_in(file.read()),
-                                     [journal_line(line) for line in [*published, publish("more", "1.0.0")]])
+                self.assertEqual(commands_in(Path(saved).read_bytes()),
+                                 [journal_line(line) for line in [*HOLES, publish("more", "1.0.0")]])
 
     def test_a_seat_goes_on(self):
-        published, asked = self.asked()
-        lines = [*published, *(line for line, _ in asked)]
-        with tempfile.NamedTemporaryFile("w", encoding="ascii") as file:
-            file.write("".join(line + "\n" for line in lines))
-            file.flush()
-            done = run(["race", file.name], preexec_fn=within(LIMIT))
+        asked = self.asked()
+        lines = [*HOLES, *(line for line, _ in asked)]
+        files = [[line.encode() for line in lines]]
+        with tempfile.TemporaryDirectory() as folder:
+            done = run(["race", *plain_race.written(folder, files)], preexec_fn=within(LIMIT))
         self.assertEqual((done.returncode, done.stderr), (0, b""))
-        told = plain_race.told_in([[line.encode() for line in lines]],
-                                  done.stdout.decode().split("\n"))[len(published):]
+        told = plain_race.told_in(files, done.stdout.decode().split("\n"))[len(HOLES):]
         # what was learnt on the way takes places
         self.assertEqual([it.reply for it in told],
                          [json.dumps(json.loads(reply), separators=(",", ":")) for _, reply in asked])
-        self.assertTrue(all(it.place >= len(published) for it in told))
+        self.assertTrue(all(it.place >= len(HOLES) for it in told))
 
     def test_a_reply_that_would_take_all_memory(self):
         # each version is ruled out by a line of its own, and named by its long text in eleven lines: some 5 MB, which
@@ -142,9 +133,7 @@ class Peaks(unittest.TestCase):
     def peak_of(self, *files):
         """Kilobytes, and what the race prints."""
         with tempfile.TemporaryDirectory() as folder:
-            paths = [Path(folder, str(number)) for number in range(len(files))]
-            for path, lines in zip(paths, files):
-                path.write_text("".join(f"{line}\n" for line in lines), encoding="ascii")
+            paths = plain_race.written(folder, [[line.encode() for line in lines] for lines in files])
             theirs, ours = os.pipe()
             fcntl.fcntl(ours, fcntl.F_SETPIPE_SZ, PIPE)
             # what fills the pipe is read before what the race writes

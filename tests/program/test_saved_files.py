@@ -30,8 +30,8 @@ class Saved(Sessions):
         if is_there:
             self.write(self.saved, OLD)
 
-    def left(self, path=None):
-        return self.read(path or self.saved) if os.path.exists(path or self.saved) else None
+    def left(self):
+        return self.read(self.saved) if os.path.exists(self.saved) else None
 
     def save(self, path=None, **more):
         return run([*SERVE, "--save", path or self.saved], GIVEN, **more)
@@ -85,12 +85,12 @@ class Places(Saved):
         link = os.path.join(self.folder, "stdout")
         os.symlink("/proc/self/fd/1", link)
         for path in (link, "/proc/self/fd/1"):
-            done = run([*SERVE, "--save", path], GIVEN)
+            done = self.save(path)
             self.assertEqual((done.returncode, done.stderr, done.stdout), (0, b"", REPLIES + NEW))
             for append in (False, True):
                 self.write(self.saved, OLD)
                 with open(self.saved, "ab" if append else "wb") as out:
-                    done = run([*SERVE, "--save", path], GIVEN, stdout=out)
+                    done = self.save(path, stdout=out)
                 self.assertEqual((done.returncode, done.stderr), (0, b""))
                 self.assertEqual((self.left(), self.beside()),
                                  ((OLD if append else b"") + REPLIES + NEW, ["saved", "stdout"]))
@@ -110,7 +110,7 @@ class Places(Saved):
         self.assertEqual(self.beside(), ["fifo"])
 
     def test_a_standard_stream_that_is_closed_gets_no_file(self):
-        kept, line = os.path.join(self.folder, "kept"), publish("a", "1.0.0")
+        kept, line = self.kept, publish("a", "1.0.0")
         self.begin(True)
         for closed, told in (("<&-", b"registryd: input failed\n"), (">&-", FAILED)):
             for option, file in (("--save", self.saved), ("--journal", kept)):

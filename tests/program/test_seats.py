@@ -7,6 +7,7 @@ import subprocess
 import tempfile
 import unittest
 from collections import defaultdict
+from pathlib import Path
 from unittest import mock
 
 import pytest
@@ -15,23 +16,15 @@ from dev.long import race_many
 from tests.program import test_embedded_calls, test_race
 from tests.program.test_journals import CHAIN_LEARNT, CONFLICT, journal
 from tests.support import plain_race, program
-from tests.support.library import FOLDER, LACKING, TESTS, linked, needs_library
+from tests.support.library import TESTS, needs_library, serving
 from tests.support.program import skip_without
 
 pytestmark = pytest.mark.not_quick("the static library")
-CALLS, RACE = os.path.join(TESTS, "c_seat_calls.c"), os.path.join(TESTS, "seats_race.c")
+CALLS, RACE = os.path.join(TESTS, "c_seat_calls.c"), "seats_race.c"
 
 
 class Calls(test_embedded_calls.Calls):
     SOURCE, KINDS = CALLS, ("calls", "forks", "threads")
-
-
-def racing(case):
-    """A program that races files as the program under test does, by seats in process; it lasts as long as a class of
-    tests."""
-    if not FOLDER:
-        raise unittest.SkipTest(LACKING)
-    return linked(os.path.join(case.enterClassContext(tempfile.TemporaryDirectory()), "race"), RACE)
 
 
 @needs_library
@@ -40,7 +33,7 @@ class Race(test_race.Race):
 
     @classmethod
     def setUpClass(cls):
-        race = racing(cls)
+        race = serving(cls, source=RACE)
 
         def run(words, *given, **more):
             with mock.patch.object(program, "PROGRAM", race):
@@ -69,18 +62,14 @@ def lines_in_order(replies, commands):
 class Judged(unittest.TestCase):
     @classmethod
     def setUpClass(cls):
-        cls.race = racing(cls)
+        cls.race = serving(cls, source=RACE)
 
     def setUp(self):
         self.folder = self.enterContext(tempfile.TemporaryDirectory())
 
     def raced(self, files, **env):
-        """What a race of files prints."""
-        paths = [os.path.join(self.folder, str(number)) for number in range(len(files))]
-        for path, lines in zip(paths, files):
-            with open(path, "wb") as out:
-                out.writelines(line + b"\n" for line in lines)
-        done = subprocess.run([self.race, "race", *paths], env={**os.environ, **env}, capture_output=True, timeout=300)
+        done = subprocess.run([self.race, "race", *plain_race.written(self.folder, files)], timeout=300,
+                              env={**os.environ, **env}, capture_output=True)
         self.assertEqual((done.returncode, done.stderr), (0, b""))
         return done.stdout.decode()
 
@@ -121,13 +110,12 @@ class Judged(unittest.TestCase):
             self.assertEqual(same, told, line[:500])
 
     def test_a_journal_is_loaded_and_given_back(self):
-        path = os.path.join(self.folder, "loaded")
+        path = Path(self.folder, "loaded")
         for text in (journal(CONFLICT), CHAIN_LEARNT, journal([])):
-            with open(path, "wb") as out:
-                out.write(text)
+            path.write_bytes(text)
             for count in (1, 64):
                 # each of the seats has seen all of it
-                printed = self.raced([[b'{"op":"list"}']] * count, SEATS_LOAD=path).encode()
+                printed = self.raced([[b'{"op":"list"}']] * count, SEATS_LOAD=str(path)).encode()
                 self.assertTrue(printed.endswith(b"\n" + text), text)
                 entries = text.count(b"\n") - 2
                 self.assertEqual([json.loads(it)["place"] for it in printed.splitlines()[:count]], [entries] * count)

@@ -2,6 +2,7 @@
 its end."""
 import os
 import re
+import subprocess
 import sys
 import tempfile
 import unittest
@@ -22,6 +23,13 @@ def blocks(name):
     return [re.sub("^    ", "", block, flags=re.M).strip() for block in re.findall("(?:^    .*\n)+", read(name), re.M)]
 
 
+def printed(script, cwd=None, **variables):
+    """What a Python of its own prints that runs a script, with the client beside it."""
+    done = subprocess.run([sys.executable, "-c", script], cwd=cwd, env={**PYTHON, **variables}, stdout=subprocess.PIPE,
+                          text=True, timeout=SECONDS, check=True)
+    return done.stdout.strip()
+
+
 def other(script, **more):
     """A session with a program in Python in the place of the real one: it has answered the first line, and sleeps where
     the session is to end it."""
@@ -29,10 +37,15 @@ def other(script, **more):
     return Registry([sys.executable, "-c", begun + script], **more)
 
 
+def accepted(registry, requests):
+    """Has these requests answered, none of which is refused."""
+    for future in registry.many(requests):
+        future.result(SECONDS)
+
+
 def pigeons(registry):
     """Publishes pigeons with one hole too few, and answers a request for all, whose search outlasts each test."""
-    for future in registry.many(Line(line.encode()) for line in PLACES):
-        future.result(SECONDS)
+    accepted(registry, [Line(line.encode()) for line in PLACES])
     return HOPELESS
 
 
@@ -41,9 +54,7 @@ class Case(unittest.TestCase):
 
     def setUp(self):
         self.enterContext(in_time(SECONDS))
-        folder = tempfile.TemporaryDirectory()
-        self.addCleanup(folder.cleanup)
-        self.folder = folder.name
+        self.folder = self.enterContext(tempfile.TemporaryDirectory())
 
     def path(self, *names):
         return os.path.join(self.folder, *names)

@@ -1,4 +1,5 @@
 """Sessions that keep a journal, and clients of them that find the program gone at any moment."""
+import contextlib
 import functools
 import json
 import os
@@ -23,17 +24,14 @@ class Client:
 
     def __init__(self, words, **more):
         # the little that it says on standard error waits in the pipe
-        self.running = tied.Tied([PROGRAM, *map(str, words)], stdin=subprocess.PIPE, stdout=subprocess.PIPE,
-                                 stderr=subprocess.PIPE, bufsize=0,
-                                 **more)
+        pipe = subprocess.PIPE
+        self.running = tied.Tied([PROGRAM, *map(str, words)], stdin=pipe, stdout=pipe, stderr=pipe, bufsize=0, **more)
         self.read = b""
 
     def send(self, lines):
         """Sends lines in one piece; nothing comes of it where the program is gone."""
-        try:
+        with contextlib.suppress(BrokenPipeError):
             self.running.stdin.write("".join(line + "\n" for line in lines).encode())
-        except BrokenPipeError:
-            pass
 
     def read_until(self, count, seconds=PATIENCE):
         """Reads until there are so many replies, or the program has ended; answers whether there are."""
@@ -48,10 +46,6 @@ class Client:
             self.read += piece
         return True
 
-    def is_silent(self, seconds):
-        """Whether nothing more comes for so long, and the program runs."""
-        return not select.select([self.running.stdout], [], [], seconds)[0] and self.running.poll() is None
-
     def replies(self):
         return self.read.decode().split("\n")[:-1]
 
@@ -61,23 +55,17 @@ class Client:
 
     def leave(self):
         """Ends the input, reads what is left of the replies, and waits. Answers the status and standard error."""
-        try:
+        with contextlib.suppress(BrokenPipeError):
             self.running.stdin.close()
-        except BrokenPipeError:
-            pass
         self.read_until(float("inf"))
         with self.running.stdout, self.running.stderr:
             return self.running.wait(), self.running.stderr.read()
 
 
-def accepted(lines, before=()):
+@functools.lru_cache(maxsize=100)  # a session is killed at many places, over the same lines
+def accepted(lines, before):
     """The commands among these lines that are accepted behind those before, as a journal has them, each with its line's
     number from 1."""
-    return list(accepted_of(tuple(lines), tuple(before)))
-
-
-@functools.lru_cache(maxsize=100)  # a session is killed at many places, over the same lines
-def accepted_of(lines, before):
     registry, found = Registry(), []
     for line in before:
         registry.apply(json.loads(line))
@@ -92,6 +80,10 @@ def accepted_of(lines, before):
     return found
 
 
+def journal_lines(lines):
+    return [journal_line(line).encode() for line in lines]
+
+
 def fault_of(text, lines, count, before=()):
     """What is wrong with a journal's file once so many of these lines have their replies; nothing where it has all that
     it must have and nothing else, in order. The file begins with the commands before them."""
@@ -99,9 +91,8 @@ def fault_of(text, lines, count, before=()):
         found = remnant(text).commands
     except NoRemnant as fault:
         return str(fault)
-    every = accepted(lines, before)
-    told, most = [*before,
-                  *(line for number, line in every if number <= count)], [*before, *(line for _, line in every)]
+    every = accepted(tuple(lines), tuple(before))
+    told, most = ([*before, *(line for number, line in every if number <= last)] for last in (count, len(lines)))
     if found[:len(told)] != told:
         return f"what was told is not in the file: {told[-1]}, {len(found)} of {len(told)}"
     return None if found == most[:len(found)] else f"the file has what nobody asked for: {found[-1]}"

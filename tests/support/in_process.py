@@ -21,6 +21,7 @@ class Told:
 class InProcess:
     """Has the tests of a class run so. They are skipped where there is no library."""
     COMPILED = ()
+    LOOKS = ("fstat", "stat")  # by which it is asked what stands there
 
     @classmethod
     def setUpClass(cls):
@@ -35,3 +36,11 @@ class InProcess:
 class BySeat(InProcess):
     """By a seat that keeps its journal in a file."""
     COMPILED = ("-DBY_SEAT",)
+
+
+def in_process(tests, way=InProcess):
+    return type(tests.__name__, (way, tests), {})
+
+
+def by_seat(tests):
+    return in_process(tests, BySeat)

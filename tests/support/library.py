@@ -61,11 +61,18 @@ def linked_with_sources(to, source, *more):
     return str(to)
 
 
-def serving(case, *words):
-    """A program that serves lines as the program under test does, over a session in process; it is compiled with these
-    words, and lasts as long as a class of tests."""
+class Caller(unittest.TestCase):
+    """A test with a folder, in which its caller of the library is compiled."""
+
+    def setUp(self):
+        self.folder = self.enterContext(tempfile.TemporaryDirectory())
+        self.caller = os.path.join(self.folder, "caller")
+
+
+def serving(case, *words, source="embedded_serve.c"):
+    """A program that serves lines as the program under test does, over a session in process, or races files, by seats;
+    it is compiled with these words, and lasts as long as a class of tests."""
     if not FOLDER:
         raise unittest.SkipTest(LACKING)
-    folder = tempfile.TemporaryDirectory()
-    case.addClassCleanup(folder.cleanup)
-    return linked(os.path.join(folder.name, "serve"), os.path.join(TESTS, "embedded_serve.c"), *words)
+    folder = case.enterClassContext(tempfile.TemporaryDirectory())
+    return linked(os.path.join(folder, "serve"), os.path.join(TESTS, source), *words)

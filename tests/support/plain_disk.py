@@ -17,7 +17,6 @@ class Call:
 
 
 def calls_in(log):
-    """The calls that were noted."""
     for line in log.decode("ascii").splitlines():
         name, answer, number, given, other = line.split(" ")
         yield Call(name, int(answer), int(number), bytes.fromhex(given), bytes.fromhex(other))
@@ -69,7 +68,6 @@ class Disk:
         return os.path.normpath(os.path.join(self.folder, os.fsdecode(name)))
 
     def follow(self, call):
-        """Does what a call did."""
         if call.answer >= 0 and hasattr(self, call.name):
             getattr(self, call.name)(call)
 

@@ -1,6 +1,7 @@
 """What a race of files may print: each reply is judged at its place of the journal that the race printed, by the plain
 session and the plain journal that stand beside. It shares nothing with the program."""
 import json
+import os
 from collections import defaultdict
 from functools import lru_cache
 
@@ -49,6 +50,15 @@ class Told:
     def asked(self, most):
         """The line as far as it is told."""
         return self.line[:most].decode(errors="replace")
+
+
+def written(folder, files):
+    """The paths of files in a folder that have these lines."""
+    paths = [os.path.join(folder, f"lines{number}") for number in range(len(files))]
+    for path, lines in zip(paths, files):
+        with open(path, "wb") as out:
+            out.writelines(line + b"\n" for line in lines)
+    return paths
 
 
 def told_in(files, lines):

@@ -5,23 +5,27 @@ import shutil
 import subprocess
 import tempfile
 import unittest
+from pathlib import Path
 from typing import NamedTuple
 
 from tests.support.program import TOP, run
 
-MEMORY = "/dev/shm"  # where short-lived files cost least, on machines that have it
 REFUSE_MEMORY = "refuse_memory.c"
 BREAK_CALLS = "break_calls.c"
 WATCH_CALLS = "watch_calls.c"
+NO_SYNC = "no_sync.c"
+
+
+def in_memory():
+    """A folder for short-lived files, where they cost least, on machines that have such a place."""
+    return tempfile.TemporaryDirectory(dir="/dev/shm" if os.path.isdir("/dev/shm") else None)
 
 
 def built(case, source):
     """The path of such a library, which is built of a source below `tools` and lasts as long as a class of tests."""
     if not shutil.which("cc"):
         raise unittest.SkipTest("there is no cc (Debian: gcc)")
-    folder = tempfile.TemporaryDirectory()
-    case.addClassCleanup(folder.cleanup)
-    library = os.path.join(folder.name, "library.so")
+    library = os.path.join(case.enterClassContext(tempfile.TemporaryDirectory()), "library.so")
     subprocess.run(["cc", "-O1", "-shared", "-fPIC", "-o", library, os.path.join(TOP, "tests", "support", "c", source)],
                    check=True)
     return library
@@ -38,11 +42,8 @@ class Refused(NamedTuple):
 
     def left(self, name):
         """What stands in a file of its folder; nothing where there is no such file."""
-        try:
-            with open(os.path.join(self.folder, name), "rb") as file:
-                return file.read()
-        except FileNotFoundError:
-            return None
+        path = Path(self.folder, name)
+        return path.read_bytes() if path.exists() else None
 
     @property
     def stdout(self):
@@ -56,15 +57,12 @@ class Refused(NamedTuple):
 def each_refused(library, command, given, numbers, behind=0):
     """Runs a command on these bytes once for each of these numbers, a range; it ends before where so many runs in a row
     did not come to their request. Yields them in order; what they left stands until the last was asked for."""
-    with tempfile.TemporaryDirectory(dir=MEMORY if os.path.isdir(MEMORY) else None) as folder:
+    with in_memory() as folder:
         path = os.path.join(folder, "given")
-        with open(path, "wb") as out:
-            out.write(given)
-        env = {**os.environ, "LD_PRELOAD": library, "REFUSE_FIRST": str(numbers.start),
-               "REFUSE_LAST": str(numbers.stop - 1),
-               "REFUSE_STEP": str(numbers.step), "REFUSE_BEHIND": str(behind), "REFUSE_GIVEN": path}
-        done = subprocess.run(command, env=env, cwd=folder, stdin=subprocess.DEVNULL, stdout=subprocess.PIPE,
-                              stderr=subprocess.PIPE, timeout=600)
+        Path(path).write_bytes(given)
+        env = {**os.environ, "LD_PRELOAD": library, "REFUSE_FIRST": str(numbers.start), "REFUSE_GIVEN": path,
+               "REFUSE_LAST": str(numbers.stop - 1), "REFUSE_STEP": str(numbers.step), "REFUSE_BEHIND": str(behind)}
+        done = subprocess.run(command, env=env, cwd=folder, stdin=subprocess.DEVNULL, capture_output=True, timeout=600)
         assert (done.returncode, done.stderr) == (0, b""), done
         for number, line in zip(numbers, done.stdout.splitlines()):
             ended, requests, came = map(int, line.split())

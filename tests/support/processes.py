@@ -1,37 +1,36 @@
 """Processes that a test has begun by others: whether they work, and whether they have ended."""
 import os
 import time
+from pathlib import Path
 
 from tests.support.program import PATIENCE
 
 
+def comes(condition):
+    """Whether this comes true in time."""
+    until = time.monotonic() + PATIENCE
+    while not condition() and time.monotonic() < until:
+        time.sleep(0.01)
+    return condition()
+
+
 def is_gone(process):
     """Whether a process has ended, or does so soon."""
-    until = time.monotonic() + PATIENCE
-    while os.path.exists(f"/proc/{process}/exe") and time.monotonic() < until:
-        time.sleep(0.05)
-    return not os.path.exists(f"/proc/{process}/exe")
+    return comes(lambda: not os.path.exists(f"/proc/{process}/exe"))
 
 
 def child_of(process):
     """The one child of a process, once it has begun."""
-    until = time.monotonic() + PATIENCE
-    while time.monotonic() < until:
-        with open(f"/proc/{process}/task/{process}/children", encoding="ascii") as file:
-            found = file.read().split()
-        if found:
-            time.sleep(0.3)  # it reads the journal and begins to search
-            return int(found[0])
-        time.sleep(0.01)
-    raise AssertionError("no program was started")
+    children = Path(f"/proc/{process}/task/{process}/children")
+    assert comes(lambda: children.read_text(encoding="ascii")), "no program was started"
+    time.sleep(0.3)  # it reads the journal and begins to search
+    return int(children.read_text(encoding="ascii").split()[0])
 
 
 def is_idle(process):
     """Whether a process uses no time, however long that is waited for."""
-    before, until = used(process), time.monotonic() + PATIENCE
-    while used(process) == before and time.monotonic() < until:
-        time.sleep(0.05)
-    return used(process) == before
+    before = used(process)
+    return not comes(lambda: used(process) != before)
 
 
 def used(process):
