@@ -2,8 +2,6 @@
 
 A line is drawn only where no others say it already; what a crate takes from the kit stands in it in small letters.
 """
-from __future__ import annotations
-
 import subprocess
 import sys
 from collections.abc import Mapping, Sequence

@@ -1,7 +1,5 @@
 """Files of seconds: what crates, or files of tests, take. A run of `./test` notes there what it measured, so that none
 grows stale."""
-from __future__ import annotations
-
 import contextlib
 import os
 import statistics

@@ -1,6 +1,4 @@
 """What long runs share: seeds that are tried side by side, and what is found."""
-from __future__ import annotations
-
 import argparse
 import multiprocessing
 import os

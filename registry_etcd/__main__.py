@@ -7,8 +7,6 @@
 
 docs/SCALE.md tells how to begin, and what is promised.
 """
-from __future__ import annotations
-
 import argparse
 import contextlib
 import os

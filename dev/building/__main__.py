@@ -9,8 +9,6 @@
 Nothing is proved of a compiled program: `./test` proves everything, and `./registryd` runs the proved program from then
 on.
 """
-from __future__ import annotations
-
 import argparse
 import contextlib
 import fcntl

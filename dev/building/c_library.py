@@ -3,8 +3,6 @@ clients/c.
 
 It stands in `out/library`, with a note of what it was made from: one whose sources or archive are others now is built
 anew, which takes seconds."""
-from __future__ import annotations
-
 import dataclasses
 import fcntl
 import hashlib

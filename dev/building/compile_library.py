@@ -4,8 +4,6 @@ program.
 The front end of a try takes what a `main` reaches. So it gets a copy of the crate in which the root has one that calls
 each export, and what it makes of them keeps the names by which a linker finds them, where `main` goes. The library has
 no functions for the heap: they are its caller's, or the kit's."""
-from __future__ import annotations
-
 import re
 import shutil
 from collections.abc import Iterator, Sequence

@@ -5,8 +5,6 @@ nothing was proved of it. `out/unchecked/NAME` was compiled without its checks, 
 that is to be run. Beside each stands `NAME.json` with what it was made from, as sums: one whose sources, kit or own
 bytes are others now is not taken. A static library, `libNAME.a`, stands in the same way. Run by itself, this prints
 what `./registryd --version` tells."""
-from __future__ import annotations
-
 import contextlib
 import dataclasses
 import functools

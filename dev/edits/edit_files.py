@@ -2,8 +2,6 @@
 
 An edit is a file of lines: `file: PATH` of the crate, then pairs `old: TEXT` and `new: TEXT`. With a line `only:
 FUNCTION` each run of the tests tries it."""
-from __future__ import annotations
-
 import os
 import re
 from collections.abc import Iterable, Iterator, Mapping, Sequence

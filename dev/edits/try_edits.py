@@ -2,8 +2,6 @@
 
 Each is tried by the function that it changes. One that this does not refuse, or that changes what is no function, is
 tried by a proof of the whole crate, as the kit's gate does with `crates/NAME/must-fail`."""
-from __future__ import annotations
-
 import os
 import re
 import shutil

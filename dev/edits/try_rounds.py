@@ -4,8 +4,6 @@ A crate is copied with as many edits in their places as change functions that di
 functions alone, over the libraries that stand. The gate has proved all others, so that their proofs are holes here: a
 hole stands for what the function promises. An edit is refused only by an error at its own function, so that none is
 taken for refused because another is; where nothing says so or the contrary, it is tried once more alone."""
-from __future__ import annotations
-
 import contextlib
 import os
 import re

@@ -7,8 +7,6 @@ or removes them.
 
 Nothing is built, and nothing is written outside of the prefix. docs/INSTALLING.md tells what goes where.
 """
-from __future__ import annotations
-
 import argparse
 import shlex
 import sys

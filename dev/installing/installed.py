@@ -3,8 +3,6 @@
 `lib/registryd` has the program and the packages as they stand in a checkout, so that they find one another; what is in
 `bin` finds them from where it stands itself, so a prefix may be moved. Nothing is written here: `pieces` answers it
 all."""
-from __future__ import annotations
-
 import functools
 import glob
 import importlib.util

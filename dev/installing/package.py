@@ -6,8 +6,6 @@
 
 It needs debhelper, and nothing is built or installed. The same sources, program and debhelper give the same bytes.
 """
-from __future__ import annotations
-
 import argparse
 import contextlib
 import os

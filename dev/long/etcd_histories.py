@@ -9,8 +9,6 @@ kills fronts too, and begins them again with the same lines; the second keeps sn
 both, at random and so that no cell may stay, and there a front may say that it can't answer as before. Status 1 where a
 history shows what may not be; it is told with its seed, and what was answered is left in a file.
 """
-from __future__ import annotations
-
 import argparse
 import collections
 import json

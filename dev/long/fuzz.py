@@ -8,8 +8,6 @@ and damaged. The plain readers of `tests/support`, which share nothing with the 
 or several. A session is sent twice, the second time with what the first one told, and saved; then its journal, also
 what was learnt, is damaged and loaded. Status 1 where anything is found; each find has its seed and its line.
 """
-from __future__ import annotations
-
 import functools
 import json
 import os

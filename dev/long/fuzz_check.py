@@ -6,8 +6,6 @@ Lines are damaged in their bytes, tokens and members, and as people mistype them
 for what it says, 1 to 6 and 19. Where the check tells what was probably meant, that is put in its place, and both are
 asked again. Status 1 where they differ anywhere; each such line is told with its seed.
 """
-from __future__ import annotations
-
 import functools
 import json
 import random

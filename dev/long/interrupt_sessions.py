@@ -13,8 +13,6 @@ is closed, which may be interrupted too. Each reply is the one to what was asked
 each publication that was told as accepted stands in the journal at its revision; nothing waits for ever; a session that
 ended says that a call was interrupted. Status 1 where anything is found; each find is told with its seed.
 """
-from __future__ import annotations
-
 import contextlib
 import ctypes
 import functools

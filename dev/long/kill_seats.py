@@ -11,8 +11,6 @@ there, each reply was right, and of each thread nothing else stands there but th
 on with the same file, and now and then `registryd` does. Status 1 where anything is found; each find is told with its
 seed.
 """
-from __future__ import annotations
-
 import functools
 import json
 import os

@@ -9,8 +9,6 @@ end well. Then plain readers read the file: all that the client was told stands 
 not asked for; each reply was right; what was learnt follows. The next session goes on with the same file, so it grows
 and is recovered many times. Status 1 where anything is found; each find is told with its seed.
 """
-from __future__ import annotations
-
 import contextlib
 import functools
 import json

@@ -8,8 +8,6 @@ beside its own or in its place, or a copy gets its own, and another session begi
 later may be accepted; all that was told has to stand in the file; and the session says why it ends. Status 1 where
 anything is found; each find is told with its seed.
 """
-from __future__ import annotations
-
 import os
 import random
 import shutil

@@ -8,8 +8,6 @@ lock, as likely as not. The request is asked alone, and once more behind others 
 workers: the reply may not hang on what was asked before. Status 1 where anything is found; each find is told with its
 seed.
 """
-from __future__ import annotations
-
 import argparse
 import json
 import random

@@ -9,8 +9,6 @@ on four; its threads pause at random where they ask for memory, and the whole pr
 random times. Plain readers replay the printed journal: each accepted command stands in it once, after all that its seat
 had seen, and each reply is right at its place. Status 1 where anything is found; each find is told with its seed.
 """
-from __future__ import annotations
-
 import functools
 import json
 import os

@@ -16,8 +16,6 @@ programs that it built. Where the gate passes, `./registryd` runs the proved pro
 
 With `--nothing-skipped` before these words a skipped test is a failure, as for `.ci/run`.
 """
-from __future__ import annotations
-
 import os
 import sys
 from collections.abc import Callable, Mapping, Sequence
