@@ -32,8 +32,7 @@ def stands_on() -> dict[str, list[str]]:
 
 
 def crates_below(name: str | None = None) -> list[str]:
-    """The crates of crates.txt, each after those that it stands on; those of one crate and below it, if that is
-    named."""
+    """The crates of crates.txt, each after those that it stands on: all, or one that is named and those below it."""
     needs = stands_on()
     found: list[str] = []
 
@@ -59,7 +58,6 @@ def seconds_of(crate: str) -> float:
 
 
 def in_words(seconds: float) -> str:
-    """A time as a person says it."""
     if seconds < 90:
         return f"{max(5, 5 * round(seconds / 5)):.0f} s"
     return f"{seconds / 60:.0f} min"
@@ -105,8 +103,7 @@ class Line:
 
 
 class Counter(Line):
-    """How long something has taken, beside what it takes on an idle machine; where that is no terminal, nothing is
-    said."""
+    """How long something has taken, beside what it takes on an idle machine; nothing where that is no terminal."""
 
     def __init__(self, doing: str, seconds: float, out: TextIO | None = None) -> None:
         self.doing, self.seconds = doing, seconds

@@ -83,14 +83,12 @@ class Tries:
             self.taken.add(name)
 
     def ready(self) -> list[str]:
-        """The crates with edits that are proved, and whose libraries below are taken, those with the most edits
-        first."""
+        """The crates with edits that are proved, and whose libraries are taken, those with the most edits first."""
         found = [name for name in self.waiting if name in self.told - self.failed and self.below[name] <= self.taken]
         return sorted(found, key=lambda name: -len(self.waiting[name]))
 
     def idle(self) -> int:
-        """How many processors neither prove a crate nor try its edits. Each crate whose libraries are proved is being
-        proved."""
+        """How many processors neither prove nor try. Each crate whose libraries are proved is being proved."""
         proofs = [name for name in self.below if name not in self.told and self.below[name] <= self.told]
         builds: list[Future[Any]] = [self.built] if self.built else []
         return self.processors - len(proofs) - sum(not begun.done() for begun in [*self.tried, *builds])

@@ -67,14 +67,12 @@ def link_all(folder: str, to: str) -> None:
 
 
 def take(name: str, room: str) -> None:
-    """Takes a library as it stands into a room for tries: what is built or put back in its place later changes nothing
-    there."""
+    """Takes a library as it stands into a room for tries: what becomes of its place later changes nothing there."""
     link_all(library(name), os.path.join(room, f"{name}.rlib"))
 
 
 def words(name: str, paths: Iterable[str], room: str) -> list[str]:
-    """How the prover is asked for functions of a crate, over the libraries of a room; what it keeps there of that
-    serves its next round."""
+    """How the prover is asked for functions of a crate, over a room's libraries; what it keeps there serves later."""
     kit, crates = kit_commands.folder(), stands_on()
     root = next(root for root in ("src/lib.rt", "src/main.rt") if os.path.exists(os.path.join(CRATES, name, root)))
     asked = [f"{kit}/bin/rattle", "check", "--crate-name", name, root, "-L", f"dependency={kit}/rlibs"]

@@ -4,8 +4,7 @@
     tools/package --unproved       else from the one that was compiled from them; its version and --version say so
     tools/package --output DIR     into another folder
 
-It needs debhelper, and nothing is built or installed. The same sources, program and debhelper give the same bytes.
-"""
+It needs debhelper, and nothing is built or installed. The same sources, program and debhelper give the same bytes."""
 import argparse
 import contextlib
 import os

@@ -120,8 +120,7 @@ def write_list(prefix: Path, lines: Iterable[str]) -> None:
 
 
 def remove(prefix: Path) -> list[Path]:
-    """Removes what was installed below a prefix: files, and the folders that were made for them. Answers the folders
-    that stay since something else is in them."""
+    """Removes what was installed below a prefix; answers the folders that stay since something else is in them."""
     lines = listed(prefix)
     if not lines:
         raise Refused(f"nothing is installed below {prefix}: {prefix / LIST} is not there")

@@ -6,8 +6,7 @@
 Lines are good, or damaged in their bytes, tokens or members. The derivations that the program tells are sent back, good
 and damaged. The plain readers of `tests/support`, which share nothing with the program, judge the replies of one worker
 or several. A session is sent twice, the second time with what the first one told, and saved; then its journal, also
-what was learnt, is damaged and loaded. Status 1 where anything is found; each find has its seed and its line.
-"""
+what was learnt, is damaged and loaded. Status 1 where anything is found; each find has its seed and its line."""
 import functools
 import json
 import os
@@ -36,8 +35,7 @@ def run(lines: Sequence[bytes], *words: str, workers: int = 1) -> list[str]:
 
 
 def named_before() -> list[dict[str, Any]]:
-    """Publications that name so many requirements on each package that those of the session are beyond the ones whose
-    sets are kept."""
+    """Publications that name as many requirements on each package as have their sets kept, before the session's."""
     return [{"op": "publish", "name": "y", "version": f"0.0.{number}",
              "needs": [[name, f"<9.{number}.0"] for name in NAMES]} for number in range(KEPT_SETS)]
 
@@ -54,8 +52,7 @@ def first_lines(maker: Maker, count: int) -> tuple[list[Any], list[bytes]]:
 
 
 def told_again(maker: Maker, lines: Sequence[bytes], replies: Sequence[str]) -> list[bytes]:
-    """Lines that ask whether the derivations follow that were told: as they are, damaged, and with another value in one
-    place."""
+    """Lines that ask whether the derivations follow that were told: as they are, damaged, and with one other value."""
     made: list[bytes] = []
     for line, reply in zip(lines, replies):
         if reply.startswith('{"derivation"'):

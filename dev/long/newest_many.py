@@ -6,8 +6,7 @@
 Each registry has packages that stand in each other's way, pre-releases, build metadata and yanks, and its request a
 lock, as likely as not. The request is asked alone, and once more behind others of the same registry, by several
 workers: the reply may not hang on what was asked before. Status 1 where anything is found; each find is told with its
-seed.
-"""
+seed."""
 import argparse
 import json
 import random
@@ -76,8 +75,7 @@ def asked_in(seeds: Iterable[int], others: bool, workers: int, serve: Serve) -> 
 
 
 def faults(seeds: Iterable[int], serve: Serve = serve) -> list[str]:
-    """What is told of each case whose answer is not the newest selection, by the program or by what serves in its
-    place."""
+    """What is told of each case that is not answered by the newest selection, by the program or what serves for it."""
     found, seeds = [], list(seeds)
     for first in range(0, len(seeds), AT_ONCE):
         some = seeds[first:first + AT_ONCE]

@@ -1,5 +1,4 @@
-"""Cells in etcd, over a gateway that answers what it is told to: what is asked of etcd, and what a cell or a row of
-cells may not be."""
+"""Cells in etcd, over a gateway that answers as told: what is asked of etcd, and what a cell or a row may not be."""
 import json
 from base64 import b64encode
 

@@ -1,5 +1,4 @@
-"""How a history of fronts over etcd goes and what is told of it, over stand-ins of the fronts, the members and the
-commands beside."""
+"""How a history of fronts over etcd goes and what is told of it, over stand-ins of the fronts, members and commands."""
 import itertools
 import json
 import os

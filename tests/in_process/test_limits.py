@@ -35,8 +35,7 @@ def listed():
 
 
 def bounds(form, place=""):
-    """What a schema says of the most of anything, by its place in the schema: pairs and what is longer by nature
-    aside."""
+    """What a schema says of the most of anything, by its place there: pairs and what is longer by nature aside."""
     items = form.items() if isinstance(form, dict) else enumerate(form) if isinstance(form, list) else []
     for name, value in items:
         if name in ("maxItems", "maxLength", "maximum") and value > MORE_THAN_A_PAIR:

@@ -1,5 +1,4 @@
-"""What pages and comments cite is there: links lead somewhere, and the sources have each name. A public item has a
-comment."""
+"""What pages and comments cite is there: links lead somewhere, and the sources have each name and its comment."""
 import os
 import re
 import unittest

@@ -2,7 +2,6 @@
 import unittest
 from types import SimpleNamespace
 
-
 from registry_cli.commands import import_index as alone
 
 

@@ -1,5 +1,4 @@
-"""Parts of the command registry in one process, by examples worked by hand: needs, files and a new journal, what is
-visible, and a bar."""
+"""Parts of the command registry by examples worked by hand: needs, files, a new journal, what is visible, a bar."""
 import io
 import os
 import signal

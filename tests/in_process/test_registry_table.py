@@ -1,5 +1,4 @@
-"""The table of subcommands and what reads words by it, in one process: which values words have, the edges of numbers,
-and what comes before a subcommand."""
+"""The table of subcommands and what reads words by it: values, the edges of numbers, what is before a subcommand."""
 import json
 
 import pytest

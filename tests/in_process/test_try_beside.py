@@ -8,7 +8,6 @@ import unittest
 from pathlib import Path
 from unittest import mock
 
-
 from dev.edits import try_beside, try_rounds
 from dev.edits.edit_files import Edit
 from dev.edits.try_rounds import BAD, BY_CLAUSE, BY_NAME, BY_PROOF, NOT_REFUSED

@@ -243,8 +243,7 @@ class WithScripts(Called):
             assert self.tried("lines", service.path, [line]) == (accepted(1) if is_same else bad), line
 
     def test_what_can_not_be_looked_up(self):
-        """A journal that is cut off, and a connection that is not ended, on which the command may still be
-        under way."""
+        """A journal that is cut off, and a connection that is not ended, on which the command may yet be under way."""
         for scripts in ([(1, ""), (0, "..."), (0, "..."), (0, "")], [(1, UNAVAILABLE + "..."), (1, accepted(2))]):
             service = self.script(1, [PUBLISHED], scripts)
             service.journal = service.journal.removesuffix("end 1\n")

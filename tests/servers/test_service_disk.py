@@ -34,8 +34,7 @@ def refused(reason, revision):
 
 class Faulty(Case):
     def is_told(self, service, client, reason, revision):
-        """Commands are refused, and it is told why, at each moment; all else is as always, and the program is
-        not begun again and again."""
+        """Commands are refused and told why, each time; all else is as always, and nothing begins again for ever."""
         for number in range(POLLS):
             assert service.get("/health") == (503, reason + "\n")
             assert client.ask(publish("p", f"9.{number}.0")) == [refused(reason, revision)]

@@ -21,8 +21,7 @@ def has_replies(client):
 
 class Slow(Case):
     def assert_meanwhile(self, were_before, begun, seconds):
-        """All of these answers came before that of a search which lasts so long; or one at least, where a busy
-        machine took longer for them."""
+        """All these answers came before that of so long a search; or one at least, where a busy machine took longer."""
         assert all(were_before) or any(were_before) and time.monotonic() - begun > seconds, were_before
 
     def begin_full(self, *words, **more):
