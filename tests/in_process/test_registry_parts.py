@@ -137,9 +137,8 @@ class TestFaults:
             journal_file.write_new(path, b"text", like)
             assert files.read_file(path) == b"text" and sorted(os.listdir(folder)) == ["like", "new"]
             assert os.stat(path).st_mode & 0o777 == 0o604
-            with pytest.raises(Failed,
-                               match=rf"\A{path} is there already, and nothing is written over it: name "
-                               rf"another file\Z"):
+            there = "is there already, and nothing is written over it: name another file"
+            with pytest.raises(Failed, match=rf"\A{path} {there}\Z"):
                 journal_file.write_new(path, b"x", like)
             with mock.patch.object(journal_file, "refuse_existing", side_effect=[None, Failed("taken")]):
                 with pytest.raises(Failed, match="taken"):
