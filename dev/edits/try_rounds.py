@@ -219,8 +219,7 @@ def try_together(places: Mapping[Edit, Place], room: str) -> dict[Edit, Verdict]
 
 
 def try_round(places: Mapping[Edit, Place], room: str) -> dict[Edit, Verdict]:
-    """The same of each that anything is said of. Where nothing is said of any, as beside one that the prover cannot
-    read, a half of them is tried at a time."""
+    """The same of each that anything is said of; where nothing is, as beside one that can't be read, of each half."""
     if len(places) == 1:
         (edit, place), = places.items()
         return {edit: try_alone(edit, *place, room)}

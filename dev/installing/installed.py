@@ -97,8 +97,7 @@ def program(may_be_unproved: bool) -> Program:
 
 
 def library(program: Program) -> Library | None:
-    """The library for C that is installed with a program: the one that stands, if what it has within is proved, or the
-    program is not proved either; else none."""
+    """The library for C that stands, to be installed with a program: with a proved one only if it is proved too."""
     found = c_library.standing()
     return found if found and (found.kind == PROVED or program.kind != PROVED) else None
 

@@ -158,8 +158,7 @@ def run_all(processors: int, builds: Builds | None = None, is_quick: bool = Fals
 
 
 def once_more(folder: Path, came: dict[str, Counts]) -> tuple[str, ...]:
-    """Runs the files that failed once more, one after another, and puts what came of them then in its place; answers
-    lines that name those that passed."""
+    """Runs failed files once more, one by one, and notes what comes of it; answers lines on those that passed."""
     failed = [path for path, counts in came.items() if counts.failed]
     told = []
     for path in failed if len(failed) <= MOST_AGAIN else []:
