@@ -28,7 +28,6 @@ def give_way() -> None:
 
 
 def try_crate(edits: Sequence[Edit], room: str) -> list[tuple[Edit, Verdict]]:
-    """Tries edits of one crate; answers each with what came of it."""
     try:
         return list(try_in_rounds(edits, room))
     except Exception as fault:

@@ -50,7 +50,6 @@ def seconds() -> int:
 
 
 def write(tree: Path, program: Program, library: Library | None) -> None:
-    """Writes what debhelper packs below a folder."""
     if (TOP / "LICENSE").exists():
         raise Refused("LICENSE states a license, and dev/installing/debian/copyright says that none is: change that")
     shutil.copytree(HERE / "debian", tree / "debian")

@@ -81,7 +81,6 @@ def stage(prefix: Path, folders: Iterable[str], pieces: Iterable[Piece]) -> None
 
 
 def put(path: Path, piece: Piece) -> None:
-    """Writes one piece at a path."""
     if piece.link:
         path.symlink_to(piece.link)
     else:

@@ -127,7 +127,6 @@ class History:
         self.done["cells dropped by hand"] += 1
 
     def run(self) -> str | None:
-        """Runs it, and answers what is wrong, or nothing."""
         ended = fronts.run("found", self.members.clients, "--prefix", self.prefix)
         assert ended.returncode == 0, ended.stderr
         faults = self.asked()

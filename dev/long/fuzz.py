@@ -23,6 +23,9 @@ from tests.support.plain_session import PlainSession, Requirements
 
 # the program keeps the matching sets of so many requirements of a package
 KEPT_SETS = 128
+# publications that name so many on each package: those of the session are beyond the ones whose sets are kept
+NAMED_BEFORE = [{"op": "publish", "name": "y", "version": f"0.0.{number}",
+                 "needs": [[name, f"<9.{number}.0"] for name in NAMES]} for number in range(KEPT_SETS)]
 
 
 def run(lines: Sequence[bytes], *words: str, workers: int = 1) -> list[str]:
@@ -34,15 +37,9 @@ def run(lines: Sequence[bytes], *words: str, workers: int = 1) -> list[str]:
     return replies
 
 
-def named_before() -> list[dict[str, Any]]:
-    """Publications that name as many requirements on each package as have their sets kept, before the session's."""
-    return [{"op": "publish", "name": "y", "version": f"0.0.{number}",
-             "needs": [[name, f"<9.{number}.0"] for name in NAMES]} for number in range(KEPT_SETS)]
-
-
 def first_lines(maker: Maker, count: int) -> tuple[list[Any], list[bytes]]:
     """What a session begins with, a value or none for each line, and the lines."""
-    values = named_before() if maker.rng.random() < 0.25 else []
+    values: list[Any] = [*NAMED_BEFORE] if maker.rng.random() < 0.25 else []
     count += len(values)
     while len(values) < count:
         values.append(maker.value())
@@ -148,7 +145,6 @@ def loaded(maker: Maker, path: str, text: bytes) -> None:
 
 
 def session(seed: int, count: int, path: str) -> int:
-    """One session and its journal; answers how many lines were judged."""
     maker = Maker(random.Random(seed))
     _, lines = first_lines(maker, count)
     workers = maker.rng.choice([1, 2, 4, 64])
@@ -171,7 +167,6 @@ def session(seed: int, count: int, path: str) -> int:
 
 
 def tried(seed: int, count: int) -> tuple[Any, ...]:
-    """How many lines were judged, and what was found, of one seed."""
     return seed_tried(seed, lambda folder: [session(seed, count, os.path.join(folder, "journal"))], [0])
 
 

@@ -24,7 +24,6 @@ Serve = Callable[[list[Any], int], list[str]]
 
 
 def serve(lines: Iterable[object], workers: int = 1) -> list[str]:
-    """The replies to these lines."""
     return fuzz.run([json.dumps(line).encode() for line in lines], workers=workers)
 
 
@@ -40,7 +39,6 @@ def renamed(value: dict[str, Any], number: int) -> dict[str, Any]:
 
 
 def wanted(commands: Iterable[object], request: dict[str, Any]) -> Any:
-    """The newest selection of a request, or none."""
     registry = Published()
     for command in commands:
         registry.apply(command)

@@ -111,7 +111,6 @@ def race(seed: int, pausing: str, folder: str) -> tuple[int, int]:
 
 
 def tried(seed: int, pausing: str) -> tuple[Any, ...]:
-    """How many lines and entries a race had, and what was found."""
     faults = plain_race.RaceFault, subprocess.TimeoutExpired
     return seed_tried(seed, lambda folder: race(seed, pausing, folder), [0, 0], faults)
 

@@ -85,7 +85,6 @@ def note_proved(before: Mapping[str, str]) -> None:
 
 
 def tools(names: Sequence[str] = TESTED, **how: Any) -> Counts:
-    """Runs the tests in Python on these programs; answers their counts."""
     for name in names:
         # each file of tests would look for it anew
         os.environ[name.upper()] = programs.path_for_tests(name)

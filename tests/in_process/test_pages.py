@@ -34,7 +34,6 @@ def blocks_left_out(text):
 
 
 def links(text):
-    """The targets of a page's links."""
     return [target for _, target in ANY_LINK.findall("\n".join(blocks_left_out(text)))]
 
 

@@ -46,7 +46,6 @@ class Requests(Worked):
         assert self.state() == before
 
     def state(self):
-        """The files of the folder, and what stands in them."""
         return {name: (os.stat(self.path(name)).st_mtime_ns, self.text(name)) for name in os.listdir(self.folder)}
 
     def test_hosts(self):

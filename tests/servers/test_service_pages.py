@@ -20,7 +20,6 @@ class Pages(Case):
 
     @staticmethod
     def ask(port, path, method="GET", host=None):
-        """The status of an answer, and its value."""
         with closing(HTTPConnection("127.0.0.1", port, timeout=60)) as connection:
             connection.request(method, path, headers={"Host": host} if host else {})
             reply = connection.getresponse()

@@ -61,7 +61,6 @@ class Behind(Case):
         wait_for(lambda: self.is_listened_at(socket.AF_INET, ("127.0.0.1", self.port)))
 
     def follow(self, words):
-        """Begins a program that ends with the test."""
         running = self.enterContext(tied.Tied(words, stdin=subprocess.DEVNULL, stdout=subprocess.DEVNULL,
                                               stderr=subprocess.DEVNULL, cwd=self.folder))
         self.addCleanup(running.kill)
