@@ -1,6 +1,4 @@
 """Says how far a long proof is: at which crate of how many, how long it has taken, and about how long is left."""
-from __future__ import annotations
-
 import os
 import re
 import sys
@@ -8,7 +6,7 @@ import threading
 import time
 from collections.abc import Sequence
 from pathlib import Path
-from typing import TextIO
+from typing import Self, TextIO
 
 from dev.measured import read
 
@@ -95,7 +93,7 @@ class Line:
             self.is_over.set()
             self.clear()
 
-    def __enter__(self) -> Line:
+    def __enter__(self) -> Self:
         return self
 
     def __exit__(self, *_: object) -> None:

@@ -4,8 +4,6 @@ to do. Before them it builds the static library, once all below that is proved.
 The gate's libraries are linked into a room of the tries' own as each is told as proved, so that nothing that the gate
 builds, or puts back at its end, changes what a try rests on. Tries give way to proofs: they run at the lowest priority,
 and none begins while a crate waits for a processor."""
-from __future__ import annotations
-
 import contextlib
 import os
 import tempfile
@@ -13,7 +11,7 @@ import threading
 from collections import Counter
 from collections.abc import Sequence
 from concurrent.futures import Future, ThreadPoolExecutor
-from typing import Any
+from typing import Any, Self
 
 from dev.building import prove_library
 from dev.building.progress import stands_on
@@ -50,7 +48,7 @@ class Tries:
         self.room = tempfile.TemporaryDirectory(ignore_cleanup_errors=True)
         self.pool, self.lock = ThreadPoolExecutor(processors, initializer=give_way), threading.RLock()
 
-    def __enter__(self) -> Tries:
+    def __enter__(self) -> Self:
         return self
 
     def __exit__(self, broken_off: object, *_: object) -> None:

@@ -9,8 +9,6 @@ time. Each kind has a quarter of the minutes. Meanwhile a client asks an easy re
 again. For each kind its replies are told, the greatest wait for one, the hard requests that were answered and that were
 told to have taken too long, and how often a reader was begun again. Status 1 where an easy request has another reply
 than the right one, or none after the limit and a second."""
-from __future__ import annotations
-
 import argparse
 import contextlib
 import json
@@ -21,7 +19,7 @@ import tempfile
 import threading
 import time
 from collections.abc import Sequence
-from typing import Any
+from typing import Any, Self
 
 from tests.support.program import resolve
 from tests.support.registry_folder import pigeons
@@ -39,7 +37,7 @@ class Hard:
         self.clients: set[Client] = set()
         self.threads = [threading.Thread(target=self.run) for _ in range(clients)]
 
-    def __enter__(self) -> Hard:
+    def __enter__(self) -> Self:
         for thread in self.threads:
             thread.start()
         return self

@@ -3,8 +3,6 @@ are still compiled, then the others, and last the file that judges what was said
 
 Files that ask for no program stand in a folder of their own. They find none, so that a file in the wrong folder fails.
 A file that has the mark `not_quick` is left out of a quick run, which says so."""
-from __future__ import annotations
-
 import contextlib
 import os
 import re
@@ -13,7 +11,7 @@ import tempfile
 import time
 from collections.abc import Iterable, Mapping, Sequence
 from pathlib import Path
-from typing import TextIO
+from typing import Self, TextIO
 from xml.etree import ElementTree
 
 from dev import measured
@@ -53,7 +51,7 @@ class Session:
         self.running = subprocess.Popen(command, cwd=TOP, env=environment, stdin=subprocess.DEVNULL,
                                         stdout=out, stderr=subprocess.STDOUT if out else None)
 
-    def __enter__(self) -> Session:
+    def __enter__(self) -> Self:
         return self
 
     def __exit__(self, *_: object) -> None:

@@ -1,5 +1,4 @@
-"""Wrong bodies are tried beside the gate, and the static library is built: each over what is proved, none instead of a
-proof. The prover is a stub here."""
+"""Wrong bodies are tried, and the static library built, beside the gate over what is proved; the prover is a stub."""
 import contextlib
 import io
 import os

@@ -1,5 +1,4 @@
-"""An etcd that is full, and one that answers what no etcd answers: what fronts and `compact` do then. No entry is lost,
-and what is wrong is told in a line."""
+"""An etcd that is full, or answers what no etcd does: no entry is lost, and what is wrong is told in a line."""
 import contextlib
 import re
 import unittest

@@ -1,5 +1,4 @@
-"""The page of `registry page` in a browser: clicks, typing, the back button, links, at three widths. Its graphs and
-refusals have tests of their own."""
+"""The page of `registry page` in a browser: clicks, typing, the back button, links, at three widths."""
 import json
 import re
 from urllib.parse import quote, urlencode

@@ -1,5 +1,4 @@
-"""The command `registry` asks a service that is begun again meanwhile. `tests/transcripts/service.t` has what each
-subcommand answers."""
+"""The command `registry` asks a service that is begun again meanwhile: for all else `tests/transcripts/service.t`."""
 import json
 import time
 from concurrent.futures import ThreadPoolExecutor
