@@ -9,7 +9,10 @@ have it. The program is killed after a random time or a number of replies; a few
 file: each command that was told stands at the place and revision that its reply tells, all that a reply rests on is
 there, each reply was right, and of each thread nothing else stands there but the line that it was at. The next seats go
 on with the same file, and now and then `registryd` does. Status 1 where anything is found; each find is told with its
-seed."""
+seed.
+"""
+from __future__ import annotations
+
 import functools
 import json
 import os

@@ -7,7 +7,10 @@ A client sends publications, yanks and requests in bursts, of which some search 
 program is killed after a random time, when it has given a certain reply, or when the last line was sent; a few sessions
 end well. Then plain readers read the file: all that the client was told stands there, in order, and nothing that it had
 not asked for; each reply was right; what was learnt follows. The next session goes on with the same file, so it grows
-and is recovered many times. Status 1 where anything is found; each find is told with its seed."""
+and is recovered many times. Status 1 where anything is found; each find is told with its seed.
+"""
+from __future__ import annotations
+
 import contextlib
 import functools
 import json
