@@ -99,8 +99,6 @@ class TestPlaces:
 
 
 class TestVerdicts:
-    """What the prover's answer says of an edited function, and of the only one."""
-
     def among(self, lines, function=LATE):
         return judged([*lines, "only=2 holes=1"], "crate", "src/a.rt", function)
 

@@ -32,8 +32,6 @@ class Program:
 
 
 class Asker:
-    """A client that keeps what it is told."""
-
     def __init__(self, pool):
         self.told, self.has_gone, self.is_slow, self.takes_commands, self.asked = [], False, False, True, [None]
         watch = SimpleNamespace(answered=lambda asked, _: self.told.append((asked.line, asked.reply)))

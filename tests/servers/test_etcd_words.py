@@ -30,8 +30,6 @@ def test_words_that_can_not_be_meant():
 
 
 class Patience(unittest.TestCase):
-    """Who waits for members that don't answer gives up when it should."""
-
     def setUp(self):
         self.enterContext(program.in_time(100))
 

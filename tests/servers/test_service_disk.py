@@ -57,8 +57,6 @@ class Faulty(Case):
 
 
 class Full(Faulty):
-    """A real one, of a small file system."""
-
     def setUp(self):
         super().setUp()
         self.folder = self.enterContext(small_disk(DISK))

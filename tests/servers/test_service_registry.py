@@ -10,8 +10,6 @@ from tests.support.services import Case
 
 
 class Again(Case):
-    """A service is killed and begun again while it is asked."""
-
     def restarts(self, service, count):
         """Kills it so many times, and begins it anew each time."""
         for _ in range(count):
