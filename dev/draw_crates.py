@@ -1,9 +1,6 @@
 """Has Graphviz draw which crate stands on which, from crates.txt, as docs/crates.svg.
 
-A line is drawn only where no others say it already; what a crate takes from the kit stands in it in small letters.
-"""
-from __future__ import annotations
-
+A line is drawn only where no others say it already; what a crate takes from the kit stands in it in small letters."""
 import subprocess
 import sys
 from collections.abc import Mapping, Sequence

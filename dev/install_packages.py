@@ -3,8 +3,6 @@ lacks still: the tests that need it are skipped then, and counted.
 
     python3 -m dev.install_packages          root installs what lacks
 """
-from __future__ import annotations
-
 import contextlib
 import os
 import shutil

@@ -1,7 +1,4 @@
-"""Files of seconds: what crates, or files of tests, take. A run of `./test` notes there what it measured, so that none
-grows stale."""
-from __future__ import annotations
-
+"""Files of seconds: what crates, or files of tests, take. A run of `./test` notes there what it measured."""
 import contextlib
 import os
 import statistics
@@ -21,7 +18,6 @@ def lines_of(path: str | os.PathLike[str]) -> list[str]:
 
 
 def read(path: str | os.PathLike[str]) -> dict[str, float]:
-    """The seconds of each name."""
     pairs = [line.split("#")[0].split() for line in lines_of(path)]
     return {name: float(seconds) for name, seconds in filter(None, pairs)}
 
@@ -51,7 +47,6 @@ class Proofs:
         self.took: dict[str, float] = {}
 
     def tell(self, name: str) -> None:
-        """Notes that the gate tells of a crate."""
         self.begun.update((crate, self.last) for crate, folder in self.folders.items()
                           if crate not in self.begun and os.path.isdir(os.path.join(folder, "out")))
         self.last = time.monotonic()

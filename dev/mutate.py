@@ -4,10 +4,7 @@
 
 Comparisons are turned, constants changed, conditions made true or false, `None` put for what is returned, and
 statements deleted. Each mutant is tried in a copy of this folder by the files of tests that are given, else by those
-that name the file. A mutant may remove whatever its tests may: where this is root, they run as nobody.
-"""
-from __future__ import annotations
-
+that name the file. A mutant may remove whatever its tests may: where this is root, they run as nobody."""
 import argparse
 import ast
 import contextlib

@@ -1,6 +1,4 @@
 """What long runs share: seeds that are tried side by side, and what is found."""
-from __future__ import annotations
-
 import argparse
 import multiprocessing
 import os
@@ -55,7 +53,6 @@ class Run:
                 yield counts
 
     def totals(self, tried: Callable[..., tuple[Any, ...]], seeds: int | None = None) -> list[Any]:
-        """The sums of what is counted of the seeds."""
         return [sum(column) for column in zip(*self.each(tried, seeds))]
 
     def end(self, counted: str, more: str = "") -> int:

@@ -1,6 +1,4 @@
 """What standard error says while something takes long, where that is a terminal and --quiet is not given."""
-from __future__ import annotations
-
 import contextlib
 import sys
 import threading

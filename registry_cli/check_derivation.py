@@ -6,8 +6,7 @@
 
 Each refusal with a derivation gets a line. Status 0: all follow; 1: one does not; 2: there is no judging it. The rules
 are those of Semantic Versioning 2.0.0, of the Cargo Book ("Specifying Dependencies", as the crate `semver` reads it)
-and of Dart pub's doc/solver.md. The words of explanations are not judged.
-"""
+and of Dart pub's doc/solver.md. The words of explanations are not judged."""
 from __future__ import annotations
 
 import re

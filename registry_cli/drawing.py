@@ -1,8 +1,7 @@
 """Pictures of a derivation and of a selection, as SVG.
 
 A derivation is a column of boxes, each below those that it rests on; a line on the left leads from a box to those that
-cite it. A selection is a staircase of packages: what a package needs is to the right of it and then down.
-"""
+cite it. A selection is a staircase of packages: what a package needs is to the right of it and then down."""
 from __future__ import annotations
 
 import html

@@ -1,6 +1,4 @@
 """Why a subcommand ends without what was asked for: statuses, and exceptions with the line that people read."""
-from __future__ import annotations
-
 from collections.abc import Mapping
 
 DONE, REFUSED, USAGE, FAILED = 0, 1, 2, 3

@@ -1,6 +1,4 @@
 """Completion of the shell's lines: what a shell of the system offers too, and versions behind `NAME@`."""
-from __future__ import annotations
-
 import glob
 import os
 import re

@@ -1,6 +1,4 @@
 """Runs one command line, and turns what may go wrong into one line on standard error and an exit status."""
-from __future__ import annotations
-
 import errno
 import gc
 import importlib

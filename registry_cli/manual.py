@@ -1,6 +1,4 @@
 """The manual page registry.1, made of the table."""
-from __future__ import annotations
-
 from .command_line import flags
 from .shapes import Sequence, Subcommand, Word
 from .table import COMMON, SUBCOMMANDS

@@ -1,6 +1,4 @@
 """How near a journal is to what a session takes: told from nine tenths of a limit on."""
-from __future__ import annotations
-
 from collections import Counter
 from collections.abc import Iterable, Iterator
 

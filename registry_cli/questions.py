@@ -3,8 +3,7 @@
 A version is asked for by a need `=version`. Where those are more than a request may have, or one is too long for a
 requirement, the question is put in a session of its own, which ends with it. There packages that are made for it depend
 on what is needed, so that a request for few of them needs it all; and where a version is too long, the package's others
-are yanked. A derivation that this session tells is told back over the packages of the registry alone.
-"""
+are yanked. A derivation that this session tells is told back over the packages of the registry alone."""
 from __future__ import annotations
 
 from .catalog import line_of
@@ -14,7 +13,7 @@ from .failures import Refused
 from .journal_file import journal_text
 from .limits import MOST_COMMANDS, MOST_NEEDS, MOST_REQUIREMENT_BYTES
 from .packages import named
-from .renewal import Release, commands_of, releases_of
+from .renewal import commands_of, releases_of
 from .session import Over
 from .shapes import Cause, Collection, Iterable, Iterator, Mapping, Pairs, RegistryOf, Reply, Request, Row, Sequence
 
@@ -46,7 +45,8 @@ class Question:
         have another lock and budget, and `registry` answers the registry in Python, with some packages."""
         needs, made = bundled(self.request["needs"], commands)
         lines = [*reached(commands, dict(self.request["needs"])), *made]
-        barred = [it for it in releases_of(commands).values() if self.bars(it)]
+        others = (it for it in releases_of(commands).values() if it.name in self.barring and not it.is_yanked)
+        barred = [it for it in others if not self.has(it.name, it.text)]
         lines += [{"op": "yank", "name": it.name, "version": it.text} for it in barred]
         if len(lines) > MOST_COMMANDS:
             raise Refused(f"the question takes {len(lines):,} commands; the limit of a session is {MOST_COMMANDS:,}")
@@ -69,10 +69,6 @@ class Question:
 
     def has(self, name: str, text: str) -> bool:
         return read_version(self.versions[name]) == read_version(text)
-
-    def bars(self, release: Release) -> bool:
-        """Whether a version is yanked for the question's sake."""
-        return release.name in self.barring and not release.is_yanked and not self.has(release.name, release.text)
 
 
 def reached(commands: Iterable[Request], names: Collection[str]) -> Iterator[Request]:

@@ -236,8 +236,6 @@ class Session:
 
 
 class Over(Session):
-    """A session on a journal's text."""
-
     def __init__(self, path: str, text: bytes) -> None:
         with shared(text) as file:
             super().__init__(path, [f"--load=/dev/fd/{file.fileno()}"], [file.fileno()])

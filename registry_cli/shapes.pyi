@@ -26,15 +26,14 @@ from .table import Subcommand, Word
 
 __all__ = [  # that are named here for other modules
     "Any", "Bar", "BinaryIO", "Callable", "Catalog", "Collection", "Connected", "Container", "Derivation", "Fact",
-    "Failure", "Fault", "FileIO", "HasFileno", "IO", "Index", "Iterable", "Iterator", "Lock", "Mapping", "NoReturn", "Output",
-    "Path", "Precedence", "Registry", "Self", "Sequence", "Session", "Standing", "Step", "Subcommand", "Terms",
+    "Failure", "Fault", "FileIO", "HasFileno", "IO", "Index", "Iterable", "Iterator", "Lock", "Mapping", "NoReturn",
+    "Output", "Path", "Precedence", "Registry", "Self", "Sequence", "Session", "Standing", "Step", "Subcommand", "Terms",
     "TextIO", "Version", "Word"]
 
 Pairs = list[list[str]]  # of names with requirements or versions, as lines have them
 Listed = tuple[str, bool]  # a version, and whether it is yanked
 Object = Mapping[str, Any]  # an object of JSON that nobody has judged
 RegistryOf = Callable[[Iterable[str]], Registry]  # with the releases of these packages
-
 
 # ---- lines
 
@@ -49,12 +48,10 @@ class Cause(TypedDict, total=False):
     versions: list[int]
     within: list[int]
 
-
 class Row(TypedDict):
     causes: list[Cause]
     conclusion: list[list[Any]]  # each a name, whether its version is among some, and the ordinals of these
     pivot: str
-
 
 class Request(TypedDict, total=False):
     """A request line, which is a command where it changes the registry."""
@@ -67,7 +64,6 @@ class Request(TypedDict, total=False):
     budget: int
     derivation: list[Row]
 
-
 class Reply(TypedDict, total=False):
     ok: bool
     refused: bool
@@ -79,29 +75,20 @@ class Reply(TypedDict, total=False):
     derivation: list[Row]
     packages: list[tuple[str, list[Listed]]]
 
-
 # ---- sessions
 
 class Asking(Protocol):
     """What answers request lines, until it is left."""
-
     def ask(self, *requests: Request) -> list[Reply]: ...
-
     def each(self, requests: Sequence[Request]) -> Iterator[Reply]: ...
-
     def __enter__(self) -> Self: ...
-
     def __exit__(self, kind: type[BaseException] | None, fault: BaseException | None,
                  trace: TracebackType | None) -> None: ...
 
-
 class Reading(Asking, Protocol):
     """What tells its journal too."""
-
     def journal(self) -> bytes: ...
-
     def commands(self) -> list[Request]: ...
-
 
 # ---- command lines
 
@@ -147,12 +134,10 @@ class Options(Protocol):
     full: bool
     unfolded: bool
 
-
 class Named(Options, Protocol):
     """The words of a subcommand about a package, and a version of it."""
     name: str
     version: str
-
 
 class Served(Options, Protocol):
     socket: str | None
@@ -170,11 +155,9 @@ class WhyOptions(Options, Protocol):
     """`version` is what --not takes, a name and a version."""
     version: list[str] | None
 
-
 class UpgradeOptions(Options, Protocol):
     """It takes many packages."""
     name: list[str]
-
 
 class RenewOptions(Protocol):
     """Its --lock takes many."""
@@ -182,7 +165,6 @@ class RenewOptions(Protocol):
     new: str
     lock: list[str] | None
     newest: int | None
-
 
 # ---- of single modules
 

@@ -1,6 +1,4 @@
 """The subcommands with their words: what reads words, the help, completions and the manual page are made of it."""
-from __future__ import annotations
-
 from collections import namedtuple
 
 from .limits import MOST_VERSIONS

@@ -2,8 +2,6 @@
 
 Whoever waits first takes its turn: a lock of this command's own on the file (`lockf`), beside that of a session's
 program (`flock`). So one at a time begins its program. The system takes both off as soon as their process has ended."""
-from __future__ import annotations
-
 import contextlib
 import fcntl
 import os

@@ -5,10 +5,7 @@
     registryd-etcd journal --endpoints URL,..                  prints the journal's file
     registryd-etcd compact --endpoints URL,..                  keeps a snapshot, and drops the cells before it
 
-docs/SCALE.md tells how to begin, and what is promised.
-"""
-from __future__ import annotations
-
+docs/SCALE.md tells how to begin, and what is promised."""
 import argparse
 import contextlib
 import os

@@ -1,6 +1,4 @@
 """A replica: the program `registryd serve` as a child, which answers lines by what it was fed."""
-from __future__ import annotations
-
 import os
 import subprocess
 import tempfile

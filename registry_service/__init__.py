@@ -18,5 +18,4 @@ What stands on that:
     readers.py     programs that follow the keeper: they answer requests, so that no client can stop the others
     pages.py       the page in a browser, by a process of its own
     watching.py    what is counted and logged
-    http.py        what is answered over HTTP: counts, health, the journal
-"""
+    http.py        what is answered over HTTP: counts, health, the journal"""

@@ -1,6 +1,4 @@
 """The program as a child of the service: what is written to it, and each line that it answers."""
-from __future__ import annotations
-
 import asyncio
 import re
 import time

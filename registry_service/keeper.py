@@ -1,6 +1,4 @@
 """The one program that keeps the journal. It answers commands, and each line that is not for readers."""
-from __future__ import annotations
-
 import asyncio
 import hashlib
 import json

@@ -1,6 +1,4 @@
 """What a line asks, by its member `op`."""
-from __future__ import annotations
-
 import json
 import re
 

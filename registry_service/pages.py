@@ -1,6 +1,4 @@
 """The page that a service shows, by a process of its own: however much that searches, it holds up no client."""
-from __future__ import annotations
-
 import asyncio
 import os
 import sys

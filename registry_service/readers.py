@@ -4,8 +4,7 @@ No client can stop the others. Each has one request here at a time, and these wa
 last of several readers takes no request of a client whose last one was slow; and where one is slow there while others
 wait, it is begun again and leaves that one to the other readers: so a request waits there at most a quarter of a
 second, and the time in which a reader begins, for each before it, however long the others search. One that has no reply
-at its limit is told so and its program ends, so no reply that nobody waits for stands before another.
-"""
+at its limit is told so and its program ends, so no reply that nobody waits for stands before another."""
 from __future__ import annotations
 
 import asyncio

@@ -1,6 +1,4 @@
 """What a service asks of the system: sockets to listen on, files to open, and the ear of systemd."""
-from __future__ import annotations
-
 import contextlib
 import grp
 import os

@@ -1,6 +1,4 @@
 """A program that is begun again whenever it ends."""
-from __future__ import annotations
-
 import asyncio
 from collections import deque
 from typing import Generic, Protocol, TypeVar

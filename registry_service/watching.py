@@ -1,6 +1,4 @@
 """What is seen of a service from outside: its log, and its counts in the text form of Prometheus."""
-from __future__ import annotations
-
 import asyncio
 import contextlib
 import json

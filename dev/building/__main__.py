@@ -7,10 +7,7 @@
     tools/build NAME          another program, or the static library NAME
 
 Nothing is proved of a compiled program: `./test` proves everything, and `./registryd` runs the proved program from then
-on.
-"""
-from __future__ import annotations
-
+on."""
 import argparse
 import contextlib
 import fcntl
@@ -47,7 +44,6 @@ def alone(name: str) -> Iterator[None]:
 
 
 def compiled(name: str, kind: str) -> Program:
-    """Compiles a program, with checks or without; answers it."""
     by = programs.kit_version()
     of = programs.sources_sum(name, False, by)
     begun = time.monotonic()
@@ -66,7 +62,6 @@ def compiled(name: str, kind: str) -> Program:
 
 
 def proved(name: str) -> Program:
-    """Proves a program and builds it; answers it."""
     by = programs.kit_version()
     if not by:
         raise Failed("the kit's command rt is not on the path, and only the kit can build it")

@@ -1,10 +1,7 @@
 """Builds the library for C where none stands of just these sources, and prints its folder.
 
 It has within it the archive `embedded`: the one that `./test` has proved, else one that is compiled, which takes some
-two minutes where none stands; nothing is proved of that one. The rest takes seconds, with make and a C compiler.
-"""
-from __future__ import annotations
-
+two minutes where none stands; nothing is proved of that one. The rest takes seconds, with make and a C compiler."""
 import argparse
 import subprocess
 import sys

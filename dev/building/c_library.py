@@ -3,8 +3,6 @@ clients/c.
 
 It stands in `out/library`, with a note of what it was made from: one whose sources or archive are others now is built
 anew, which takes seconds."""
-from __future__ import annotations
-
 import dataclasses
 import fcntl
 import hashlib
@@ -43,8 +41,7 @@ class Library:
 
 
 def archive() -> tuple[Path, str]:
-    """The archive that the library is built over, and its kind: the one that the environment names (`EMBEDDED`), else
-    the one that stands. An empty name is that of none."""
+    """The archive to build over, and its kind: that of `EMBEDDED` (none where that is empty), else what stands."""
     named = os.environ.get(ARCHIVE.upper())
     if named == "":
         raise Unbuilt("./test --quick leaves the library for C to ./test")

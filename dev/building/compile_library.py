@@ -4,8 +4,6 @@ program.
 The front end of a try takes what a `main` reaches. So it gets a copy of the crate in which the root has one that calls
 each export, and what it makes of them keeps the names by which a linker finds them, where `main` goes. The library has
 no functions for the heap: they are its caller's, or the kit's."""
-from __future__ import annotations
-
 import re
 import shutil
 from collections.abc import Iterator, Sequence
@@ -38,7 +36,6 @@ def exports(root: str) -> Iterator[tuple[str, list[str]]]:
 
 
 def call_of(name: str, types: Sequence[str]) -> str:
-    """A call of an export."""
     passed = [PASSED.get(of, [])[types[:at].count(of):][:1] for at, of in enumerate(types)]
     if [] in passed:
         raise Failed(f"its export {name} has parameters for which dev/building/compile_library.py has no call")
@@ -66,7 +63,6 @@ def exported(text: str, crate: str, names: Sequence[str]) -> str:
 
 
 def compiled(kit: Kit, top: Path, name: str, folder: Path, is_checked: bool) -> Path:
-    """Compiles a library in a folder of its own; answers its file."""
     crate, sources = kit.crate(top, name)
     copy, library = folder / name, folder / f"lib{name}.a"
     shutil.copytree(crate, copy, ignore=shutil.ignore_patterns("out"))

@@ -3,8 +3,6 @@
 The gate keeps what it has proved, on this machine, by the sums of all files that the proof read. So what it proves for
 one program, over a copy of that program's crates, serves the gate of the whole repository too, and the other way
 round."""
-from __future__ import annotations
-
 import os
 import re
 import shutil

@@ -1,6 +1,4 @@
 """Finds the program among what the kit's gate has proved on this machine, where it was made of the same files."""
-from __future__ import annotations
-
 import hashlib
 import json
 import os

@@ -1,6 +1,4 @@
 """The kit's folder, and its commands as a module, for what they don't do by themselves."""
-from __future__ import annotations
-
 import functools
 import shutil
 import subprocess

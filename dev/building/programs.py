@@ -5,8 +5,6 @@ nothing was proved of it. `out/unchecked/NAME` was compiled without its checks, 
 that is to be run. Beside each stands `NAME.json` with what it was made from, as sums: one whose sources, kit or own
 bytes are others now is not taken. A static library, `libNAME.a`, stands in the same way. Run by itself, this prints
 what `./registryd --version` tells."""
-from __future__ import annotations
-
 import contextlib
 import dataclasses
 import functools
@@ -45,12 +43,10 @@ class Program:
 
 
 def names() -> list[str]:
-    """The programs of the repository."""
     return sorted(crate for crate in crates_below() if (TOP / "crates" / crate / "src" / "main.rt").is_file())
 
 
 def libraries() -> list[str]:
-    """The static libraries of the repository."""
     return re.findall(r"^(\w+) staticlib\b", (TOP / "crates.txt").read_text(encoding="utf-8"), re.M)
 
 
@@ -105,8 +101,7 @@ def files_of(name: str, with_proofs: bool) -> Iterator[Path]:
 
 
 def sources_sum(name: str, with_proofs: bool, by: str | None = None) -> str:
-    """A sum of what a program is made from, and of the version of the kit that makes it: this one, or the one that is
-    named."""
+    """A sum of what a program is made from, and of the version of the kit that makes it, or of the one here."""
     whole = hashlib.sha256((kit_version() if by is None else by).encode())
     for file in files_of(name, with_proofs):
         data = file.read_bytes() if file.is_file() else b""
@@ -125,8 +120,7 @@ def place(name: str, kind: str) -> tuple[Path, Path]:
 
 
 def stand(name: str, kind: str, built: Path, of: str, by: str) -> Program:
-    """Puts a program that was built in its place, in one step; `of` is the sum of its sources, `by` the version of the
-    kit."""
+    """Puts a built program in its place, in one step; `of` is the sum of its sources, `by` the version of the kit."""
     path, beside = place(name, kind)
     path.parent.mkdir(parents=True, exist_ok=True)
     note = json.dumps({"kind": kind, "sources": of, "kit": by, "program": sum_of(built)}, indent=1) + "\n"
@@ -140,8 +134,7 @@ def stand(name: str, kind: str, built: Path, of: str, by: str) -> Program:
 
 
 def standing(name: str, kind: str) -> tuple[Program | None, bool]:
-    """The program of a kind that stands, and whether it was made from just these sources; none where its own bytes were
-    changed."""
+    """The program of a kind that stands with its own bytes, and whether it was made from just these sources."""
     path, beside = place(name, kind)
     try:
         note = json.loads(beside.read_bytes())
@@ -161,8 +154,7 @@ def made(name: str, kind: str) -> Program | None:
 
 
 def current(name: str) -> Program | None:
-    """The program that is to be run: the proved one of just these sources, else the one that was compiled with checks,
-    else none."""
+    """The program that is to be run: of just these sources the proved one, else the one with checks, else none."""
     return made(name, PROVED) or made(name, COMPILED)
 
 

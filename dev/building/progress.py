@@ -1,6 +1,4 @@
 """Says how far a long proof is: at which crate of how many, how long it has taken, and about how long is left."""
-from __future__ import annotations
-
 import os
 import re
 import sys
@@ -8,7 +6,7 @@ import threading
 import time
 from collections.abc import Sequence
 from pathlib import Path
-from typing import TextIO
+from typing import Self, TextIO
 
 from dev.measured import read
 
@@ -32,8 +30,7 @@ def stands_on() -> dict[str, list[str]]:
 
 
 def crates_below(name: str | None = None) -> list[str]:
-    """The crates of crates.txt, each after those that it stands on; those of one crate and below it, if that is
-    named."""
+    """The crates of crates.txt, each after those that it stands on: all, or one that is named and those below it."""
     needs = stands_on()
     found: list[str] = []
 
@@ -59,7 +56,6 @@ def seconds_of(crate: str) -> float:
 
 
 def in_words(seconds: float) -> str:
-    """A time as a person says it."""
     if seconds < 90:
         return f"{max(5, 5 * round(seconds / 5)):.0f} s"
     return f"{seconds / 60:.0f} min"
@@ -97,7 +93,7 @@ class Line:
             self.is_over.set()
             self.clear()
 
-    def __enter__(self) -> Line:
+    def __enter__(self) -> Self:
         return self
 
     def __exit__(self, *_: object) -> None:
@@ -105,8 +101,7 @@ class Line:
 
 
 class Counter(Line):
-    """How long something has taken, beside what it takes on an idle machine; where that is no terminal, nothing is
-    said."""
+    """How long something has taken, beside what it takes on an idle machine; nothing where that is no terminal."""
 
     def __init__(self, doing: str, seconds: float, out: TextIO | None = None) -> None:
         self.doing, self.seconds = doing, seconds

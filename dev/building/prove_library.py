@@ -2,8 +2,6 @@
 
 The gate checks such a crate, and leaves nothing of it. Its libraries stand as they were built, with no more than they
 state, so only the crate itself is proved here again."""
-from __future__ import annotations
-
 import os
 import subprocess
 

@@ -29,8 +29,7 @@ class Unknown(Exception):
 
 @dataclasses.dataclass
 class Module:
-    """The pieces of a module by their names, and those that each part has as they are; `exported` are the functions
-    that a linker finds."""
+    """The pieces of a module by their names, and those that each part has; `exported` is what a linker finds."""
     exported: Sequence[str] = MAIN
     functions: dict[str, str] = dataclasses.field(default_factory=dict)
     globals: dict[str, str] = dataclasses.field(default_factory=dict)
@@ -111,7 +110,6 @@ def stands_in(module: Module, owner: Mapping[str, int], part: int) -> tuple[set[
 
 def written(module: Module, order: Sequence[str], parts: Sequence[tuple[set[str], set[str]]],
             number: int) -> Iterator[str]:
-    """The text of a part."""
     here, elsewhere = parts[number]
     called: set[str] = set().union(*(others for _, others in parts))
     yield from [*module.head, ELSEWHERE]

@@ -2,8 +2,6 @@
 
 An edit is a file of lines: `file: PATH` of the crate, then pairs `old: TEXT` and `new: TEXT`. With a line `only:
 FUNCTION` each run of the tests tries it."""
-from __future__ import annotations
-
 import os
 import re
 from collections.abc import Iterable, Iterator, Mapping, Sequence
@@ -45,20 +43,16 @@ def changes(text: str) -> Iterator[Change]:
             yield path, old, line.removeprefix("new:").removeprefix(" ")
 
 
-def edit_of(crate: str, file: str, text: str) -> Edit:
-    only = re.search(r"^only: (\S+)$", text, re.M)
-    return Edit(crate, file, only[1] if only else None, tuple(changes(text)))
-
-
 def edits_of(crate: str) -> Iterator[Edit]:
     """The edits of a crate, by their names."""
     for file in sorted(Path(EDITS, crate).glob("*")):
-        yield edit_of(crate, file.name, file.read_text(encoding="utf-8"))
+        text = file.read_text(encoding="utf-8")
+        only = re.search(r"^only: (\S+)$", text, re.M)
+        yield Edit(crate, file.name, only[1] if only else None, tuple(changes(text)))
 
 
 def name_of(words: str, own: Iterable[str]) -> str:
-    """A type or a trait as the prover names it in an impl: its words one after another, but for the impl's own
-    parameters."""
+    """A type or a trait as the prover names it in an impl: its words in a row, but for the impl's own parameters."""
     plain = re.findall(r"\b\w+\b", re.sub(r"'\w+|\b\w+::", "", words))
     return "".join(word[0].upper() + word[1:] for word in plain if word not in (*own, "mut"))
 
@@ -87,8 +81,7 @@ def module_of(path: str) -> list[str]:
 
 
 def functions(path: str, text: str, homes: Mapping[str, Sequence[str]]) -> Iterator[Function]:
-    """The functions of a source file that have a body. By its layout a line of `}` or `{}` under a head ends its
-    body."""
+    """The functions of a source file that have a body: by its layout a line of `}` or `{}` under a head ends it."""
     module = module_of(path)
     owner: list[str] | None = None
     begun: tuple[str, int, tuple[str, str]] | None = None
@@ -129,8 +122,7 @@ def functions_by_file(crate: str) -> dict[str, list[Function]]:
 
 
 def functions_of(edit: Edit) -> set[tuple[str, Function]]:
-    """The functions whose text an edit changes, with their files; nothing where it changes a text outside a
-    function."""
+    """The functions whose text an edit changes, with their files; nothing where it changes a text outside one."""
     found = set()
     for path, old, _ in edit.changes:
         before, _, behind = Path(CRATES, edit.crate, path).read_text(encoding="utf-8").partition(old)
@@ -144,8 +136,7 @@ def functions_of(edit: Edit) -> set[tuple[str, Function]]:
 
 
 def put_in_place(edits: Iterable[Edit], folder: str) -> None:
-    """Puts edits in their places in a copy of their crate, each where its text stands before any of them is put
-    there."""
+    """Puts edits in their places in a copy of their crate, each where its text stands before any of them is there."""
     places: dict[str, list[tuple[str, str]]] = {}
     for edit in edits:
         for path, old, new in edit.changes:

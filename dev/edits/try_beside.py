@@ -4,8 +4,6 @@ to do. Before them it builds the static library, once all below that is proved.
 The gate's libraries are linked into a room of the tries' own as each is told as proved, so that nothing that the gate
 builds, or puts back at its end, changes what a try rests on. Tries give way to proofs: they run at the lowest priority,
 and none begins while a crate waits for a processor."""
-from __future__ import annotations
-
 import contextlib
 import os
 import tempfile
@@ -13,7 +11,7 @@ import threading
 from collections import Counter
 from collections.abc import Sequence
 from concurrent.futures import Future, ThreadPoolExecutor
-from typing import Any
+from typing import Any, Self
 
 from dev.building import prove_library
 from dev.building.progress import stands_on
@@ -28,7 +26,6 @@ def give_way() -> None:
 
 
 def try_crate(edits: Sequence[Edit], room: str) -> list[tuple[Edit, Verdict]]:
-    """Tries edits of one crate; answers each with what came of it."""
     try:
         return list(try_in_rounds(edits, room))
     except Exception as fault:
@@ -51,7 +48,7 @@ class Tries:
         self.room = tempfile.TemporaryDirectory(ignore_cleanup_errors=True)
         self.pool, self.lock = ThreadPoolExecutor(processors, initializer=give_way), threading.RLock()
 
-    def __enter__(self) -> Tries:
+    def __enter__(self) -> Self:
         return self
 
     def __exit__(self, broken_off: object, *_: object) -> None:
@@ -83,14 +80,12 @@ class Tries:
             self.taken.add(name)
 
     def ready(self) -> list[str]:
-        """The crates with edits that are proved, and whose libraries below are taken, those with the most edits
-        first."""
+        """The crates with edits that are proved, and whose libraries are taken, those with the most edits first."""
         found = [name for name in self.waiting if name in self.told - self.failed and self.below[name] <= self.taken]
         return sorted(found, key=lambda name: -len(self.waiting[name]))
 
     def idle(self) -> int:
-        """How many processors neither prove a crate nor try its edits. Each crate whose libraries are proved is being
-        proved."""
+        """How many processors neither prove nor try. Each crate whose libraries are proved is being proved."""
         proofs = [name for name in self.below if name not in self.told and self.below[name] <= self.told]
         builds: list[Future[Any]] = [self.built] if self.built else []
         return self.processors - len(proofs) - sum(not begun.done() for begun in [*self.tried, *builds])

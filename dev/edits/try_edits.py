@@ -2,8 +2,6 @@
 
 Each is tried by the function that it changes. One that this does not refuse, or that changes what is no function, is
 tried by a proof of the whole crate, as the kit's gate does with `crates/NAME/must-fail`."""
-from __future__ import annotations
-
 import os
 import re
 import shutil
@@ -35,13 +33,8 @@ KINDS = (BY_CLAUSE, *WORDS)
 REFUSED = (BY_CLAUSE, BY_PROOF, BY_NAME, BY_LIMIT)
 
 
-def edited_crates() -> list[str]:
-    return [name for name in sorted(os.listdir(EDITS)) if any(edits_of(name))]
-
-
 def copy_with_edits(edits: Sequence[Edit], to: str) -> None:
-    """Copies the crates with the libraries that stand below those of the edits, and puts these edits where the kit's
-    gate tries them."""
+    """Copies the crates with the libraries below those of the edits, and puts these where the kit's gate tries them."""
     crates = stands_on()
     copy_crates(crates, Path(to))
     for name in set().union(*(reached(crates, edit.crate) for edit in edits)):
@@ -73,8 +66,7 @@ def try_whole(edits: Sequence[Edit]) -> dict[tuple[str, str], str]:
 
 
 def try_by_functions(edits: Sequence[Edit], room: str) -> dict[tuple[str, str], str]:
-    """Tries edits of one crate by the functions that they change; answers what came of them, as far as each changes
-    one."""
+    """Tries edits of one crate by the functions that they change; answers what came of each that changes just one."""
     kinds = {}
     for edit, (kind, why) in try_rounds.try_in_rounds([edit for edit in edits if len(functions_of(edit)) == 1], room):
         print(f"{edit.crate}/{edit.file}: {kind}: {why[:160]}", flush=True)
@@ -102,7 +94,7 @@ def count(names: Sequence[str]) -> dict[str, dict[str, int]]:
 
 def edits(names: Sequence[str]) -> tuple[int, int]:
     """Tries the edits of these crates, or of all, and answers how many were refused and how many were not."""
-    known = edited_crates()
+    known = [name for name in sorted(os.listdir(EDITS)) if any(edits_of(name))]
     lacking = [name for name in names if name not in known]
     if lacking:
         raise SystemExit(f"no crate of this name has edits: {' '.join(lacking)}")

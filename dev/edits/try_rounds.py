@@ -4,8 +4,6 @@ A crate is copied with as many edits in their places as change functions that di
 functions alone, over the libraries that stand. The gate has proved all others, so that their proofs are holes here: a
 hole stands for what the function promises. An edit is refused only by an error at its own function, so that none is
 taken for refused because another is; where nothing says so or the contrary, it is tried once more alone."""
-from __future__ import annotations
-
 import contextlib
 import os
 import re
@@ -69,14 +67,12 @@ def link_all(folder: str, to: str) -> None:
 
 
 def take(name: str, room: str) -> None:
-    """Takes a library as it stands into a room for tries: what is built or put back in its place later changes nothing
-    there."""
+    """Takes a library as it stands into a room for tries: what becomes of its place later changes nothing there."""
     link_all(library(name), os.path.join(room, f"{name}.rlib"))
 
 
 def words(name: str, paths: Iterable[str], room: str) -> list[str]:
-    """How the prover is asked for functions of a crate, over the libraries of a room; what it keeps there of that
-    serves its next round."""
+    """How the prover is asked for functions of a crate, over a room's libraries; what it keeps there serves later."""
     kit, crates = kit_commands.folder(), stands_on()
     root = next(root for root in ("src/lib.rt", "src/main.rt") if os.path.exists(os.path.join(CRATES, name, root)))
     asked = [f"{kit}/bin/rattle", "check", "--crate-name", name, root, "-L", f"dependency={kit}/rlibs"]
@@ -223,8 +219,7 @@ def try_together(places: Mapping[Edit, Place], room: str) -> dict[Edit, Verdict]
 
 
 def try_round(places: Mapping[Edit, Place], room: str) -> dict[Edit, Verdict]:
-    """The same of each that anything is said of. Where nothing is said of any, as beside one that the prover cannot
-    read, a half of them is tried at a time."""
+    """The same of each that anything is said of; where nothing is, as beside one that can't be read, of each half."""
     if len(places) == 1:
         (edit, place), = places.items()
         return {edit: try_alone(edit, *place, room)}

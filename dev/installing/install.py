@@ -5,10 +5,7 @@ or removes them.
     tools/install PREFIX --unproved   else the one that was compiled from them; its --version says so
     tools/install --remove PREFIX     removes what an install put there, and nothing else
 
-Nothing is built, and nothing is written outside of the prefix. docs/INSTALLING.md tells what goes where.
-"""
-from __future__ import annotations
-
+Nothing is built, and nothing is written outside of the prefix. docs/INSTALLING.md tells what goes where."""
 import argparse
 import shlex
 import sys

@@ -3,8 +3,6 @@
 `lib/registryd` has the program and the packages as they stand in a checkout, so that they find one another; what is in
 `bin` finds them from where it stands itself, so a prefix may be moved. Nothing is written here: `pieces` answers it
 all."""
-from __future__ import annotations
-
 import functools
 import glob
 import importlib.util
@@ -87,8 +85,7 @@ class Piece:
 
 
 def program(may_be_unproved: bool) -> Program:
-    """The program that is installed: the proved one of these sources, or where that may be, the compiled one with its
-    checks."""
+    """The program that is installed: the proved one of these sources, else where that may be the one with checks."""
     found = programs.current(NAME)
     if found and (found.kind == PROVED or may_be_unproved):
         return found
@@ -100,15 +97,13 @@ def program(may_be_unproved: bool) -> Program:
 
 
 def library(program: Program) -> Library | None:
-    """The library for C that is installed with a program: the one that stands, if what it has within is proved, or the
-    program is not proved either; else none."""
+    """The library for C that stands, to be installed with a program: with a proved one only if it is proved too."""
     found = c_library.standing()
     return found if found and (found.kind == PROVED or program.kind != PROVED) else None
 
 
 def program_pieces(program: Program) -> list[Piece]:
-    """The program, and the command that runs it, which alone knows its version. It starts no other process unless it is
-    a link."""
+    """The program, and the command that runs it, which alone knows its version: it starts nothing but by a link."""
     version = f"{NAME} {programs.version()}, commit {programs.commit()}\n{STATES[program.kind]}"
     command = ("#!/bin/sh\n# Runs the program that is installed with it.\n"
                f'case ${{1-}} in --version | -V)\n    cat <<\\END\n{version}\nEND\n    exit ;;\nesac\n'
@@ -117,8 +112,7 @@ def program_pieces(program: Program) -> list[Piece]:
 
 
 def tool_pieces() -> Iterator[Piece]:
-    """The tools with their packages, and the commands that run them. Python keeps nothing beside them that was not
-    installed."""
+    """The tools with their packages, and the commands that run them. Python keeps nothing more beside them."""
     for name, (_, module) in TOOLS.items():
         command = f'#!/bin/sh\n{FIND}exec python3 -B "$here/../{LIB}" {module} "$@"\n'
         yield Piece(f"bin/{name}", command.encode(), 0o755)
@@ -138,8 +132,7 @@ def byte_code(path: str, data: bytes) -> bytes:
 
 
 def command_pieces() -> list[Piece]:
-    """The command for people, with its manual page, which is made of its table of words. Of its version the program's
-    command tells."""
+    """The command for people, with its manual page. Of its version the program's command tells."""
     command = (f'#!/bin/sh\n{FIND}case $* in --version | -V) exec "$here/{NAME}" --version ;; esac\n'
                f'exec python3 -B -S "$here/../{LIB}/{COMMAND}" "$@"\n')
     text = (TOP / COMMAND).read_text(encoding="utf-8").partition("\n")[2]

@@ -4,10 +4,7 @@
     tools/package --unproved       else from the one that was compiled from them; its version and --version say so
     tools/package --output DIR     into another folder
 
-It needs debhelper, and nothing is built or installed. The same sources, program and debhelper give the same bytes.
-"""
-from __future__ import annotations
-
+It needs debhelper, and nothing is built or installed. The same sources, program and debhelper give the same bytes."""
 import argparse
 import contextlib
 import os
@@ -53,7 +50,6 @@ def seconds() -> int:
 
 
 def write(tree: Path, program: Program, library: Library | None) -> None:
-    """Writes what debhelper packs below a folder."""
     if (TOP / "LICENSE").exists():
         raise Refused("LICENSE states a license, and dev/installing/debian/copyright says that none is: change that")
     shutil.copytree(HERE / "debian", tree / "debian")

@@ -81,7 +81,6 @@ def stage(prefix: Path, folders: Iterable[str], pieces: Iterable[Piece]) -> None
 
 
 def put(path: Path, piece: Piece) -> None:
-    """Writes one piece at a path."""
     if piece.link:
         path.symlink_to(piece.link)
     else:
@@ -120,8 +119,7 @@ def write_list(prefix: Path, lines: Iterable[str]) -> None:
 
 
 def remove(prefix: Path) -> list[Path]:
-    """Removes what was installed below a prefix: files, and the folders that were made for them. Answers the folders
-    that stay since something else is in them."""
+    """Removes what was installed below a prefix; answers the folders that stay since something else is in them."""
     lines = listed(prefix)
     if not lines:
         raise Refused(f"nothing is installed below {prefix}: {prefix / LIST} is not there")

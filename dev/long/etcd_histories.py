@@ -7,10 +7,7 @@ and judges what was answered by the journal that is printed in the end.
 By itself it puts the members into namespaces of the network where the machine lets it. Of three histories the first
 kills fronts too, and begins them again with the same lines; the second keeps snapshots and drops cells; the third does
 both, at random and so that no cell may stay, and there a front may say that it can't answer as before. Status 1 where a
-history shows what may not be; it is told with its seed, and what was answered is left in a file.
-"""
-from __future__ import annotations
-
+history shows what may not be; it is told with its seed, and what was answered is left in a file."""
 import argparse
 import collections
 import json
@@ -130,7 +127,6 @@ class History:
         self.done["cells dropped by hand"] += 1
 
     def run(self) -> str | None:
-        """Runs it, and answers what is wrong, or nothing."""
         ended = fronts.run("found", self.members.clients, "--prefix", self.prefix)
         assert ended.returncode == 0, ended.stderr
         faults = self.asked()

@@ -6,10 +6,7 @@
 Lines are good, or damaged in their bytes, tokens or members. The derivations that the program tells are sent back, good
 and damaged. The plain readers of `tests/support`, which share nothing with the program, judge the replies of one worker
 or several. A session is sent twice, the second time with what the first one told, and saved; then its journal, also
-what was learnt, is damaged and loaded. Status 1 where anything is found; each find has its seed and its line.
-"""
-from __future__ import annotations
-
+what was learnt, is damaged and loaded. Status 1 where anything is found; each find has its seed and its line."""
 import functools
 import json
 import os
@@ -26,6 +23,9 @@ from tests.support.plain_session import PlainSession, Requirements
 
 # the program keeps the matching sets of so many requirements of a package
 KEPT_SETS = 128
+# publications that name so many on each package: those of the session are beyond the ones whose sets are kept
+NAMED_BEFORE = [{"op": "publish", "name": "y", "version": f"0.0.{number}",
+                 "needs": [[name, f"<9.{number}.0"] for name in NAMES]} for number in range(KEPT_SETS)]
 
 
 def run(lines: Sequence[bytes], *words: str, workers: int = 1) -> list[str]:
@@ -37,16 +37,9 @@ def run(lines: Sequence[bytes], *words: str, workers: int = 1) -> list[str]:
     return replies
 
 
-def named_before() -> list[dict[str, Any]]:
-    """Publications that name so many requirements on each package that those of the session are beyond the ones whose
-    sets are kept."""
-    return [{"op": "publish", "name": "y", "version": f"0.0.{number}",
-             "needs": [[name, f"<9.{number}.0"] for name in NAMES]} for number in range(KEPT_SETS)]
-
-
 def first_lines(maker: Maker, count: int) -> tuple[list[Any], list[bytes]]:
     """What a session begins with, a value or none for each line, and the lines."""
-    values = named_before() if maker.rng.random() < 0.25 else []
+    values: list[Any] = [*NAMED_BEFORE] if maker.rng.random() < 0.25 else []
     count += len(values)
     while len(values) < count:
         values.append(maker.value())
@@ -56,8 +49,7 @@ def first_lines(maker: Maker, count: int) -> tuple[list[Any], list[bytes]]:
 
 
 def told_again(maker: Maker, lines: Sequence[bytes], replies: Sequence[str]) -> list[bytes]:
-    """Lines that ask whether the derivations follow that were told: as they are, damaged, and with another value in one
-    place."""
+    """Lines that ask whether the derivations follow that were told: as they are, damaged, and with one other value."""
     made: list[bytes] = []
     for line, reply in zip(lines, replies):
         if reply.startswith('{"derivation"'):
@@ -153,7 +145,6 @@ def loaded(maker: Maker, path: str, text: bytes) -> None:
 
 
 def session(seed: int, count: int, path: str) -> int:
-    """One session and its journal; answers how many lines were judged."""
     maker = Maker(random.Random(seed))
     _, lines = first_lines(maker, count)
     workers = maker.rng.choice([1, 2, 4, 64])
@@ -176,7 +167,6 @@ def session(seed: int, count: int, path: str) -> int:
 
 
 def tried(seed: int, count: int) -> tuple[Any, ...]:
-    """How many lines were judged, and what was found, of one seed."""
     return seed_tried(seed, lambda folder: [session(seed, count, os.path.join(folder, "journal"))], [0])
 
 

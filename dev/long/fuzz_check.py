@@ -4,10 +4,7 @@
 
 Lines are damaged in their bytes, tokens and members, and as people mistype them. Compared are the refusals of a line
 for what it says, 1 to 6 and 19. Where the check tells what was probably meant, that is put in its place, and both are
-asked again. Status 1 where they differ anywhere; each such line is told with its seed.
-"""
-from __future__ import annotations
-
+asked again. Status 1 where they differ anywhere; each such line is told with its seed."""
 import functools
 import json
 import random
@@ -46,8 +43,7 @@ def edited(line: bytes) -> bytes | None:
 
 
 def made(seed: int, count: int) -> list[bytes]:
-    """The lines of one session: damaged ones of all kinds, derivations that were told, and what was probably meant by
-    them."""
+    """The lines of one session: damaged ones of all kinds, derivations that were told, and what they may have meant."""
     maker = Slips(random.Random(seed))
     _, lines = fuzz.first_lines(maker, count // 2)
     lines += fuzz.told_again(maker, lines, fuzz.run(lines))

@@ -8,10 +8,7 @@ each reply, three that connect anew for each, one that sends 64 at once, and fou
 time. Each kind has a quarter of the minutes. Meanwhile a client asks an easy request, waits for its reply, and asks
 again. For each kind its replies are told, the greatest wait for one, the hard requests that were answered and that were
 told to have taken too long, and how often a reader was begun again. Status 1 where an easy request has another reply
-than the right one, or none after the limit and a second.
-"""
-from __future__ import annotations
-
+than the right one, or none after the limit and a second."""
 import argparse
 import contextlib
 import json
@@ -22,7 +19,7 @@ import tempfile
 import threading
 import time
 from collections.abc import Sequence
-from typing import Any
+from typing import Any, Self
 
 from tests.support.program import resolve
 from tests.support.registry_folder import pigeons
@@ -32,8 +29,7 @@ EASY, PAUSE = resolve("hole-1 *"), 0.005  # seconds between a reply and the next
 
 
 class Hard:
-    """Clients that ask this line until they are ended: each has so many under way, on one connection or on a new one
-    for each."""
+    """Clients that ask this line until they are ended, so many at once, on one connection or on a new one for each."""
 
     def __init__(self, service: Service, line: str, clients: int = 1, depth: int = 1, is_new: bool = False) -> None:
         self.service, self.line, self.depth, self.is_new = service, line.encode() + b"\n", depth, is_new
@@ -41,7 +37,7 @@ class Hard:
         self.clients: set[Client] = set()
         self.threads = [threading.Thread(target=self.run) for _ in range(clients)]
 
-    def __enter__(self) -> Hard:
+    def __enter__(self) -> Self:
         for thread in self.threads:
             thread.start()
         return self
@@ -72,8 +68,7 @@ class Hard:
 
 
 def easy(service: Service, seconds: float, limit: float, wanted: str = "hole-1") -> tuple[int, float, str | None]:
-    """Asks an easy request again and again; answers how many were answered, the greatest wait for one, and the first
-    wrong reply."""
+    """Asks an easy request again and again; answers how many were answered, the greatest wait, and a wrong reply."""
     until, count, greatest = time.monotonic() + seconds, 0, 0.0
     with service.client() as client:
         client.socket.settimeout(limit + 5)

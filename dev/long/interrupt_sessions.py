@@ -11,10 +11,7 @@ each of which one reply is right, publications that are new, and some that are r
 each of them, raised by a signal's handler or sent by another thread. Then a few calls are left alone, and the session
 is closed, which may be interrupted too. Each reply is the one to what was asked; no revision falls or is told twice;
 each publication that was told as accepted stands in the journal at its revision; nothing waits for ever; a session that
-ended says that a call was interrupted. Status 1 where anything is found; each find is told with its seed.
-"""
-from __future__ import annotations
-
+ended says that a call was interrupted. Status 1 where anything is found; each find is told with its seed."""
 import contextlib
 import ctypes
 import functools
@@ -93,8 +90,7 @@ def is_ended(reply: object) -> bool:
 # ---- Who asks
 
 class Caller:
-    """Asks until it is told to stop, or the session has ended, and notes each reply. An exception may come at any
-    moment."""
+    """Asks until it is to stop, or the session has ended, and notes each reply. An exception may come at any moment."""
 
     def __init__(self, registry: Registry, rng: random.Random, of_whom: int) -> None:
         self.registry, self.rng, self.is_single = registry, rng, rng.random() < 0.7
@@ -103,8 +99,7 @@ class Caller:
         self.interrupts, self.may_be_interrupted = 0, False
 
     def ask(self) -> None:
-        """Asks for one thing or for several together, and notes the replies in one step: so what is interrupted is not
-        noted."""
+        """Asks for one thing or for several together, and notes the replies in one step: none if it is interrupted."""
         asked = [any_of(self.rng, next(self.new)) for _ in range(self.rng.choice([1, 1, 1, 1, 2, 3, LONG]))]
         if self.is_single and len(asked) == 1:
             calls: list[Callable[[], object]] = [functools.partial(self.registry._session.call, asked[0])]
@@ -166,8 +161,7 @@ def judged(told: Sequence[Sequence[tuple[Asked, Any]]]) -> dict[int, Asked]:
 
 @contextlib.contextmanager
 def alarms(rng: random.Random, caller: Caller) -> Iterator[None]:
-    """Meanwhile a signal's handler raises exceptions in the caller, which is the main thread, as long as it may be
-    interrupted."""
+    """Meanwhile a signal's handler raises exceptions in the caller, the main thread, while it may be interrupted."""
     limit = time.monotonic() + LIMIT
 
     def handler(*_: object) -> None:
@@ -188,7 +182,6 @@ def alarms(rng: random.Random, caller: Caller) -> Iterator[None]:
 
 
 def send_exceptions(rng: random.Random, callers: Sequence[Caller], threads: Sequence[threading.Thread]) -> None:
-    """Sends exceptions to the threads of callers until all have ended."""
     limit = time.monotonic() + LIMIT
     while any(thread.is_alive() for thread in threads):
         demand(time.monotonic() < limit, f"a thread waits for ever: {[caller.told[-1:] for caller in callers]}")
@@ -251,8 +244,7 @@ def opened(kind: str, path: str, rng: random.Random) -> Registry:
 
 
 def sessions(kind: str, path: str, rng: random.Random, most: int) -> tuple[int, int, dict[int, Asked]]:
-    """Sessions over one journal; answers how many calls were interrupted, how many replies came, and what was accepted,
-    by its revision."""
+    """Sessions over one journal; answers how many calls were interrupted and replies came, and what was accepted."""
     interrupts = replies = 0
     accepted: dict[int, Asked] = {}
     for number in range(most):

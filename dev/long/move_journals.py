@@ -6,10 +6,7 @@ told later.
 A client sends commands, each burst once the one before is answered. At a random moment the file gets another name,
 beside its own or in its place, or a copy gets its own, and another session begins on that. No command that is sent
 later may be accepted; all that was told has to stand in the file; and the session says why it ends. Status 1 where
-anything is found; each find is told with its seed.
-"""
-from __future__ import annotations
-
+anything is found; each find is told with its seed."""
 import os
 import random
 import shutil

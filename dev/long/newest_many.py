@@ -6,10 +6,7 @@
 Each registry has packages that stand in each other's way, pre-releases, build metadata and yanks, and its request a
 lock, as likely as not. The request is asked alone, and once more behind others of the same registry, by several
 workers: the reply may not hang on what was asked before. Status 1 where anything is found; each find is told with its
-seed.
-"""
-from __future__ import annotations
-
+seed."""
 import argparse
 import json
 import random
@@ -27,7 +24,6 @@ Serve = Callable[[list[Any], int], list[str]]
 
 
 def serve(lines: Iterable[object], workers: int = 1) -> list[str]:
-    """The replies to these lines."""
     return fuzz.run([json.dumps(line).encode() for line in lines], workers=workers)
 
 
@@ -43,7 +39,6 @@ def renamed(value: dict[str, Any], number: int) -> dict[str, Any]:
 
 
 def wanted(commands: Iterable[object], request: dict[str, Any]) -> Any:
-    """The newest selection of a request, or none."""
     registry = Published()
     for command in commands:
         registry.apply(command)
@@ -78,8 +73,7 @@ def asked_in(seeds: Iterable[int], others: bool, workers: int, serve: Serve) -> 
 
 
 def faults(seeds: Iterable[int], serve: Serve = serve) -> list[str]:
-    """What is told of each case whose answer is not the newest selection, by the program or by what serves in its
-    place."""
+    """What is told of each case that is not answered by the newest selection, by the program or what serves for it."""
     found, seeds = [], list(seeds)
     for first in range(0, len(seeds), AT_ONCE):
         some = seeds[first:first + AT_ONCE]

@@ -7,10 +7,7 @@ prints.
 A race has 2 to 8 files, of one to forty lines each, that ask for the same packages. It runs on one processor, on two or
 on four; its threads pause at random where they ask for memory, and the whole program is stopped and goes on again at
 random times. Plain readers replay the printed journal: each accepted command stands in it once, after all that its seat
-had seen, and each reply is right at its place. Status 1 where anything is found; each find is told with its seed.
-"""
-from __future__ import annotations
-
+had seen, and each reply is right at its place. Status 1 where anything is found; each find is told with its seed."""
 import functools
 import json
 import os
@@ -56,8 +53,7 @@ def made(maker: Maker) -> bytes:
 
 
 def contended(rng: random.Random) -> dict[str, Any]:
-    """A publication or a request of three packages that need each other, so that requests lead to conflicts, from which
-    is learnt."""
+    """A publication or a request of three packages that need each other: so there are conflicts to learn from."""
     name, *others = rng.sample(RIVALS, 3)
     versions = [f"{number}.0.0" for number in range(1, 6)]
     if rng.random() < 0.65:
@@ -111,7 +107,6 @@ def race(seed: int, pausing: str, folder: str) -> tuple[int, int]:
 
 
 def tried(seed: int, pausing: str) -> tuple[Any, ...]:
-    """How many lines and entries a race had, and what was found."""
     faults = plain_race.RaceFault, subprocess.TimeoutExpired
     return seed_tried(seed, lambda folder: race(seed, pausing, folder), [0, 0], faults)
 

@@ -16,8 +16,6 @@ programs that it built. Where the gate passes, `./registryd` runs the proved pro
 
 With `--nothing-skipped` before these words a skipped test is a failure, as for `.ci/run`.
 """
-from __future__ import annotations
-
 import os
 import sys
 from collections.abc import Callable, Mapping, Sequence
@@ -87,7 +85,6 @@ def note_proved(before: Mapping[str, str]) -> None:
 
 
 def tools(names: Sequence[str] = TESTED, **how: Any) -> Counts:
-    """Runs the tests in Python on these programs; answers their counts."""
     for name in names:
         # each file of tests would look for it anew
         os.environ[name.upper()] = programs.path_for_tests(name)

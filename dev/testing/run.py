@@ -3,8 +3,6 @@ are still compiled, then the others, and last the file that judges what was said
 
 Files that ask for no program stand in a folder of their own. They find none, so that a file in the wrong folder fails.
 A file that has the mark `not_quick` is left out of a quick run, which says so."""
-from __future__ import annotations
-
 import contextlib
 import os
 import re
@@ -13,7 +11,7 @@ import tempfile
 import time
 from collections.abc import Iterable, Mapping, Sequence
 from pathlib import Path
-from typing import TextIO
+from typing import Self, TextIO
 from xml.etree import ElementTree
 
 from dev import measured
@@ -53,7 +51,7 @@ class Session:
         self.running = subprocess.Popen(command, cwd=TOP, env=environment, stdin=subprocess.DEVNULL,
                                         stdout=out, stderr=subprocess.STDOUT if out else None)
 
-    def __enter__(self) -> Session:
+    def __enter__(self) -> Self:
         return self
 
     def __exit__(self, *_: object) -> None:
@@ -158,8 +156,7 @@ def run_all(processors: int, builds: Builds | None = None, is_quick: bool = Fals
 
 
 def once_more(folder: Path, came: dict[str, Counts]) -> tuple[str, ...]:
-    """Runs the files that failed once more, one after another, and puts what came of them then in its place; answers
-    lines that name those that passed."""
+    """Runs failed files once more, one by one, and notes what comes of it; answers lines on those that passed."""
     failed = [path for path, counts in came.items() if counts.failed]
     told = []
     for path in failed if len(failed) <= MOST_AGAIN else []:

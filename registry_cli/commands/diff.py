@@ -1,6 +1,4 @@
 """`registry diff`: what changed between two lock files."""
-from __future__ import annotations
-
 from ..failures import REFUSED
 from ..locks import changed, changes, coloured, counted, lock_of
 from ..shapes import Options, Output

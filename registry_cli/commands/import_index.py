@@ -118,7 +118,9 @@ class Alone:
         self.selected = 0
         self.obstacles: dict[str, list[str]] = {}  # by obstacle the packages in whose way it stands
         bar = Bar("requesting each alone", len(self.asked))
-        for name, reply in zip(self.asked, session.each([request_alone(it) for it in self.asked])):
+        requests: list[Request] = [{"op": "resolve", "needs": [[name, "*"]], "explain": True, "budget": BUDGET}
+                                   for name in self.asked]
+        for name, reply in zip(self.asked, session.each(requests)):
             bar.step()
             self.selected += "selected" in reply
             for it in obstacles(reply):
@@ -137,10 +139,6 @@ class Alone:
     def value(self) -> dict[str, object]:
         return {"requested": len(self.asked), "selected": self.selected,
                 "in_the_way": [{"what": told, "packages": names} for told, names in self.ranked()]}
-
-
-def request_alone(name: str) -> Request:
-    return {"op": "resolve", "needs": [[name, "*"]], "explain": True, "budget": BUDGET}
 
 
 def obstacles(reply: Reply) -> list[str]:

@@ -23,7 +23,8 @@ def run(options: Options, out: Output) -> None:
         remedy = f"its first line is at fault, and `registry journal verify {path}` says why"
         raise Refused(f"{path} has nothing to keep: {remedy}")
     refuse_existing(new)
-    dropped = dropped_lines(journal)
+    rest = enumerate(journal.lines[journal.line - 1:], journal.line)
+    dropped = [(number, it) for number, it in rest if it and not it.startswith(b"end ")]
     text = journal.kept()
     if fault_line(new, text):
         raise Failed(f"{path}: the program refuses what is lawful of it, so nothing is written")
@@ -31,11 +32,6 @@ def run(options: Options, out: Output) -> None:
     out.give({"file": path, "state": journal.state, "written": new, "items": len(journal.items),
               "revision": journal.revision, "line": journal.line,
               "dropped": [it.decode(errors="replace") for _, it in dropped]}, in_words(path, new, journal, dropped))
-
-
-def dropped_lines(journal: Journal) -> list[tuple[int, bytes]]:
-    rest = list(enumerate(journal.lines[journal.line - 1:], journal.line))
-    return [(number, it) for number, it in rest if it and not it.startswith(b"end ")]
 
 
 def in_words(path: str, new: str, journal: Journal, dropped: Sequence[tuple[int, bytes]]) -> Iterator[str]:

@@ -1,6 +1,4 @@
 """`registry log`: the commands of a journal in order, each with the time when it was accepted, where that is known."""
-from __future__ import annotations
-
 import json
 import sys
 import time

@@ -1,6 +1,4 @@
 """`registry page`: shows the journal in a browser of this machine, until a key ends it."""
-from __future__ import annotations
-
 import sys
 
 from ..page.journal import File, Journal, Service

@@ -1,6 +1,4 @@
 """`registry publish`: a version of a package, with what it needs."""
-from __future__ import annotations
-
 from ..needs import needs_of
 from ..refusals import accepted, listed, unpublished
 from ..session import writing

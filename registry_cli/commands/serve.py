@@ -1,6 +1,4 @@
 """`registry serve`: a service for many clients, over the one journal, until a signal ends it."""
-from __future__ import annotations
-
 import asyncio
 
 from registry_service.pages import show

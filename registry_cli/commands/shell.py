@@ -1,6 +1,4 @@
 """`registry shell`: a prompt for the other subcommands, over one session that stays open."""
-from __future__ import annotations
-
 from .. import shell
 from ..session import journal_of, patience_of, service_of
 from ..shapes import Options, Output

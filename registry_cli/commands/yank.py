@@ -1,6 +1,4 @@
 """`registry yank` and `registry unyank`: whether a version may be selected anew."""
-from __future__ import annotations
-
 from ..refusals import accepted
 from ..session import writing
 from ..shapes import Named, Output, Request

@@ -1,6 +1,4 @@
 """The reader of crates.io's index."""
-from __future__ import annotations
-
 import json
 import os
 from pathlib import Path

@@ -1,2 +1,1 @@
-"""`registry page`: a page in a browser of this machine that shows a journal and changes nothing. `files` has what the
-browser loads."""
+"""`registry page`: a page in a browser here that shows a journal and changes nothing. `files` is what that loads."""

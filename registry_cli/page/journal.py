@@ -1,6 +1,4 @@
 """The journal that a page shows: as it stood when it was read last, with the program that selects from it."""
-from __future__ import annotations
-
 import os
 import threading
 

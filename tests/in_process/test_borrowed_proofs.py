@@ -2,8 +2,7 @@
 
 A crate is to use of those below it what their contracts and definitions say, and no lemma that their proofs were made
 of: these may change with any change of the code. Those that still do so stand in `borrowed_proofs.txt`, which may only
-get shorter.
-"""
+get shorter."""
 import re
 from pathlib import Path
 

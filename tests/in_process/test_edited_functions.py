@@ -28,8 +28,7 @@ def exports(crate):
 
 
 def is_edited(name, edited, names=()):
-    """Whether a wrong body is named for a function, one of those of these names: by its own name, or by a beginning of
-    its type's before it."""
+    """Whether a wrong body is named for one of these: by its own name, or by a beginning of its type's before it."""
     *owner, last = name.split("::")
     begins = [word.removesuffix("_" + last) for word in edited.difference(names) if word.endswith("_" + last)]
     return last in edited or any(owner and owner[0].lower().startswith(word.replace("_", "")) for word in begins)

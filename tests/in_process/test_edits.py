@@ -99,8 +99,6 @@ class TestPlaces:
 
 
 class TestVerdicts:
-    """What the prover's answer says of an edited function, and of the only one."""
-
     def among(self, lines, function=LATE):
         return judged([*lines, "only=2 holes=1"], "crate", "src/a.rt", function)
 
@@ -143,11 +141,8 @@ class Rounds(unittest.TestCase):
 
     def setUp(self):
         self.asked = []
-        kept = try_rounds.asked_with, try_rounds.functions_of
-        self.addCleanup(lambda: [setattr(try_rounds, "asked_with", kept[0]),
-                                 setattr(try_rounds, "functions_of", kept[1])])
-        try_rounds.functions_of = lambda edit: {("src/a.rt", LATE if edit.file.startswith("late") else EARLY)}
-        try_rounds.asked_with = self.ask
+        self.enterContext(mock.patch.multiple(try_rounds, asked_with=self.ask, functions_of=lambda edit: {
+            ("src/a.rt", LATE if edit.file.startswith("late") else EARLY)}))
 
     def ask(self, edits, paths, room):
         files = sorted(edit.file for edit in edits)
@@ -159,8 +154,8 @@ class Rounds(unittest.TestCase):
         return [*(line for file in files for line in said[file]), "only=2 holes=1"]
 
     def kinds(self, *files):
-        return {edit.file: kind for edit, (kind, _) in try_in_rounds([Edit("crate", file, None, ())
-                                                                      for file in files], "")}
+        edits = [Edit("crate", file, None, ()) for file in files]
+        return {edit.file: kind for edit, (kind, _) in try_in_rounds(edits, "")}
 
     def test_those_of_functions_that_differ_go_together(self):
         assert self.kinds("early", "late") == {"early": BY_CLAUSE, "late": BY_CLAUSE}
@@ -176,10 +171,10 @@ class TestByTheKit:
     """What the kit tells of the edits of whole crates; it is a script here."""
 
     def test_each_kind_by_its_words(self):
-        told = {"values": ("refused, as it must be: src/a.rt:1:1: not proved; the facts known "
-                           "there allow values at which this goal is false", BY_CLAUSE),
-                "proof": ("refused, as it must be: ./proofs/a/Answers.antt:1:1: error: as "
-                          "printed, the two types differ", BY_PROOF),
+        values = "src/a.rt:1:1: not proved; the facts known there allow values at which this goal is false"
+        proof = "./proofs/a/Answers.antt:1:1: error: as printed, the two types differ"
+        told = {"values": (f"refused, as it must be: {values}", BY_CLAUSE),
+                "proof": (f"refused, as it must be: {proof}", BY_PROOF),
                 "nothing": ("refused, as it must be", BY_PROOF),
                 "name": (try_edits.WORDS[BY_NAME] + " names what is gone)", BY_NAME),
                 "limit": (try_edits.WORDS[try_edits.BY_LIMIT] + " of the prover)", try_edits.BY_LIMIT),
@@ -187,9 +182,8 @@ class TestByTheKit:
                 "untried": ("NOT TRIED: no", try_edits.NOT_TRIED), "silent": (None, try_edits.NOT_TRIED)}
         with tempfile.TemporaryDirectory() as folder:
             script = os.path.join(folder, "rt")
-            Path(script).write_text("#!/bin/sh\ncat <<'END'\n"
-                                    + "".join(f"rt: must-fail crate/{name}: {said}\n" for name,
-                                              (said, _) in told.items() if said) + "END\n", encoding="utf-8")
+            lines = "".join(f"rt: must-fail crate/{name}: {said}\n" for name, (said, _) in told.items() if said)
+            Path(script).write_text(f"#!/bin/sh\ncat <<'END'\n{lines}END\n", encoding="utf-8")
             os.chmod(script, 0o755)
             with mock.patch.dict(os.environ, PATH=f"{folder}:{os.environ['PATH']}"), \
                     mock.patch.object(try_edits, "copy_with_edits"), contextlib.redirect_stdout(io.StringIO()):

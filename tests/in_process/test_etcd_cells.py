@@ -1,5 +1,4 @@
-"""Cells in etcd, over a gateway that answers what it is told to: what is asked of etcd, and what a cell or a row of
-cells may not be."""
+"""Cells in etcd, over a gateway that answers as told: what is asked of etcd, and what a cell or a row may not be."""
 import json
 from base64 import b64encode
 
@@ -74,8 +73,8 @@ class TestAsked:
     def test_pages(self):
         gateway = Gateway({"kvs": [row(2), row(3)], "more": True}, {"kvs": [row(3), row(4)]})
         assert list(Cells(gateway, "p").pages(Cell(2, 5, ENTRY))) == [[Cell(3, 5, ENTRY)], [Cell(4, 5, ENTRY)]]
-        assert gateway.asked == [("/v3/kv/range", self.RANGE), ("/v3/kv/range",
-                                                                {**self.RANGE, "key": encoded("p/cells/00000003")})]
+        then = {**self.RANGE, "key": encoded("p/cells/00000003")}
+        assert gateway.asked == [("/v3/kv/range", self.RANGE), ("/v3/kv/range", then)]
 
     def test_what_is_put(self):
         gateway = Gateway({"succeeded": True, "header": {"revision": "8"}},
@@ -86,12 +85,10 @@ class TestAsked:
         assert cells.put(last, [ENTRY]) == []
         puts = [{"request_put": {"key": encoded(f"p/cells/0000000{place}"),
                                  "value": b64encode(entry_bytes(ENTRY)).decode()}} for place in (3, 4)]
-        assert gateway.asked[0] == ("/v3/kv/txn", {
-            "compare": [{"key": encoded("p/cells/00000002"), "target": "CREATE", "result": "GREATER",
-                         "create_revision": 0},
-                        {"key": encoded("p/cells/00000003"), "target": "CREATE", "result": "EQUAL",
-                         "create_revision": 0}],
-            "success": puts, "failure": [{"request_range": self.RANGE}]})
+        compared = [{"key": encoded(f"p/cells/{place:08}"), "target": "CREATE", "result": is_so, "create_revision": 0}
+                    for place, is_so in ((2, "GREATER"), (3, "EQUAL"))]
+        assert gateway.asked[0] == ("/v3/kv/txn", {"compare": compared, "success": puts,
+                                                   "failure": [{"request_range": self.RANGE}]})
 
     def test_what_is_watched(self):
         told = [{}, {"events": [{"kv": row(3)}, {"type": "DELETE", "kv": {"key": encoded("p/cells/00000001")}},

@@ -220,8 +220,7 @@ def test_what_is_no_answer_of_the_gateway():
 
 @pytest.fixture
 def silent(monkeypatch):
-    """Makes a gateway whose members don't answer but for these answers in the end, where time goes on if somebody
-    sleeps."""
+    """Makes a gateway whose members answer in the end alone, by these answers; time goes on if somebody sleeps."""
     clock = SimpleNamespace(now=100.0, slept=[], monotonic=lambda: clock.now)
 
     def sleep(seconds):

@@ -1,10 +1,8 @@
-"""The lines that a front over etcd reads, and its replica, without a program: a child in its place answers what it is
-told to."""
+"""The lines that a front over etcd reads, and its replica: a child in a program's place answers what it is told to."""
 import os
 import queue
 from pathlib import Path
 from unittest import mock
-
 
 from registry_etcd import lines, replica
 from registry_etcd.lines import Line, read_line, read_lines, texts

@@ -1,5 +1,4 @@
-"""The judge of the histories of fronts over etcd: a true history, and lies about it, each of which it has to find; and
-a front as a client has it."""
+"""The judge of histories of fronts over etcd: a true one, and lies, each of which it finds; and a client's front."""
 import signal
 import sys
 from unittest import mock

@@ -1,5 +1,4 @@
-"""How a history of fronts over etcd goes and what is told of it, over stand-ins of the fronts, the members and the
-commands beside."""
+"""How a history of fronts over etcd goes and what is told of it, over stand-ins of the fronts, members and commands."""
 import itertools
 import json
 import os
@@ -102,28 +101,18 @@ def test_a_history_in_which_nothing_is_wrong(world):
     assert os.listdir() == []
 
 
-def ends_badly(world, history):
-    history.fronts[0].ending = 3, "no memory"
-
-
-def breaks_off(world, history):
-    history.fronts[1].ask = mock.Mock(side_effect=AssertionError("the front ended by itself: 1"))
-
-
-def loses(world, history):
-    world.journal = mock.MagicMock(wraps=[], __iter__=lambda _: iter([]))
-
-
 def accepts_what_nobody_sent(world, history):
     line = publish("lost", "1.0.0")
     history.fronts[1].begin = lambda: (world.registry.apply(json.loads(line)), world.journal.append(line))
 
 
-@pytest.mark.parametrize("change, told", [(ends_badly, "a front ended with 3 no memory"),
-                                          (breaks_off, "AssertionError: the front ended by itself: 1"),
-                                          (loses, "0 entries, and commands were accepted at [1, 2, 3, 4, 5] .."),
-                                          (accepts_what_nobody_sent,
-                                           "6 entries, and commands were accepted at [1] ..")])
+@pytest.mark.parametrize("change, told", [
+    (lambda _, it: setattr(it.fronts[0], "ending", (3, "no memory")), "a front ended with 3 no memory"),
+    (lambda _, it: setattr(it.fronts[1], "ask", mock.Mock(side_effect=AssertionError("the front ended by itself: 1"))),
+     "AssertionError: the front ended by itself: 1"),
+    (lambda it, _: setattr(it, "journal", mock.MagicMock(wraps=[], __iter__=lambda _: iter([]))),
+     "0 entries, and commands were accepted at [1, 2, 3, 4, 5] .."),
+    (accepts_what_nobody_sent, "6 entries, and commands were accepted at [1] ..")])
 def test_what_is_wrong_is_told_and_kept(change, told, world):
     history = world.history(4)
     change(world, history)

@@ -1,5 +1,4 @@
-"""A limit ends what a test has started, and leaves alone what is in time. `transcripts/tools/tested.t` shows that
-each test has one."""
+"""A limit ends what a test started, and nothing else. `transcripts/tools/tested.t` shows that each test has one."""
 import signal
 import subprocess
 import time

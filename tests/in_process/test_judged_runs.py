@@ -49,6 +49,11 @@ def finds(told, do, *more):
 # ---- what commands print, of what their seeds came to
 
 RACES = r"2 races of 1,300 lines, 110 entries"
+KILLS = [
+    ([(1, 1_000, 20, None), (1, 30, 5_000, None)],
+     r"2 kills of WHAT of 2 files, the largest of 5,000 bytes, 1,030 replies read, in \d+ s; 0 finds\n"),
+    ([(0, 0, 0, "seed 1: no"), (2, 1, 3, None)],
+     r"seed 1: no\n2 kills of WHAT of 2 files, the largest of 3 bytes, 1 replies read, in \d+ s; 1 finds\n")]
 PRINTED = [
     (fuzz, "--sessions", [(30, None), (30, None)], r"60 lines in \d+ s; 0 finds\n"),
     (fuzz, "--sessions", [(30, None), (0, "seed 2: no")], r"seed 2: no\n30 lines in \d+ s; 1 finds\n"),
@@ -56,21 +61,14 @@ PRINTED = [
      r"13 lines in \d+ s, answered \{0: 9, 1: 4\}; 0 finds\n"),
     (fuzz_check, "--sessions", [(Counter({0: 9}), ["one", "two"]), (Counter(), ["three"])],
      r"one\ntwo\nthree\n9 lines in \d+ s, answered \{0: 9\}; 3 finds\n"),
-    (kill_sessions, "--kills", [(1, 1_000, 20, None), (1, 30, 5_000, None)],
-     r"2 kills of sessions of 2 files, the largest of 5,000 bytes, 1,030 replies read, in \d+ s; 0 finds\n"),
-    (kill_sessions, "--kills", [(0, 0, 0, "seed 1: no"), (2, 1, 3, None)],
-     r"seed 1: no\n2 kills of sessions of 2 files, the largest of 3 bytes, 1 replies read, in \d+ s; 1 finds\n"),
-    (kill_seats, "--kills", [(1, 1_000, 20, None), (1, 30, 5_000, None)],
-     r"2 kills of seats of 2 files, the largest of 5,000 bytes, 1,030 replies read, in \d+ s; 0 finds\n"),
-    (kill_seats, "--kills", [(0, 0, 0, "seed 1: no"), (2, 1, 3, None)],
-     r"seed 1: no\n2 kills of seats of 2 files, the largest of 3 bytes, 1 replies read, in \d+ s; 1 finds\n"),
+    *[(tool, "--kills", ends, printed.replace("WHAT", what))
+      for tool, what in ((kill_sessions, "sessions"), (kill_seats, "seats")) for ends, printed in KILLS],
     (interrupt_sessions, "--sessions", [(20, 30, 4_000, None)],
      r"20 sessions, 30 calls interrupted, 4,000 replies judged, in \d+ s; 0 finds\n"),
     (interrupt_sessions, "--sessions", [(20, 30, 4_000, "seed 1: no")],
      r"seed 1: no\n20 sessions, 30 calls interrupted, 4,000 replies judged, in \d+ s; 1 finds\n"),
     (race_many, "--races", [(600, 50, None), (700, 60, None)], RACES + r", in \d+ s; 0 finds\n"),
-    (race_many, "--races", [(600, 50, None), (700, 60, "seed 2: no")], f"seed 2: no\n{RACES}"
-     + r", in \d+ s; 1 finds\n"),
+    (race_many, "--races", [(600, 50, None), (700, 60, "seed 2: no")], rf"seed 2: no\n{RACES}, in \d+ s; 1 finds\n"),
 ]
 
 

@@ -86,8 +86,7 @@ class TestSession:
             assert again.fault(asked, then) == "the same was answered otherwise before"
 
     def many(self):
-        """Publications of which so many may be chosen that a plain search is not made; the preferred version of
-        p0 can't be had."""
+        """So many may be chosen that a plain search is not made; the preferred version of p0 can't be had."""
         yield publish("p0", "1.0.0", [f"p{number} *" for number in range(1, 8)])
         yield publish("p0", "1.1.0", ["none *"])
         yield from (publish(f"p{number}", f"1.{version}.0") for number in range(1, 8) for version in range(8))

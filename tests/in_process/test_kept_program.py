@@ -51,9 +51,7 @@ class Store:
 
 class Taken(unittest.TestCase):
     def setUp(self):
-        room = tempfile.TemporaryDirectory()
-        self.addCleanup(room.cleanup)
-        self.room = room.name
+        self.room = self.enterContext(tempfile.TemporaryDirectory())
         self.low = Crate("low")
         self.top = Crate("top", [self.low])
         store = Store(self.room, {"low": "a", "top": "b"})

@@ -11,10 +11,8 @@ from tests.support.program import TOP, data_rows, read
 
 ROW = re.compile(r"^\| ([^|]+) \| ([\d,]+) ([^|]+) \| \[`(\w+)`\]\(\.\./(crates/[\w/.]+)\) \| `(\w+)` \|$", re.M)
 # What the program's libraries export beside: how many requests are answered together, how much is read at once, the
-# seats, one more
-# than there are files, the bytes of a lock, which is a line, the package of the request, the bits of a word, and what a
-# search and a reader
-# make room for.
+# seats, one more than there are files, the bytes of a lock, which is a line, the package of the request, the bits of a
+# word, and what a search and a reader make room for.
 OTHERS = {"MOST_CONFLICTS", "THREAD", "BATCH_LIMIT", "READ_SIZE", "SEAT_LIMIT", "LOCK_BYTES", "ROOT",
           "FAR", "MOST_CHOICES", "MOST_NEEDS_IN_ONE_PASS", "NEEDS_ROOM"}
 MORE_THAN_A_PAIR = 2
@@ -35,8 +33,7 @@ def listed():
 
 
 def bounds(form, place=""):
-    """What a schema says of the most of anything, by its place in the schema: pairs and what is longer by nature
-    aside."""
+    """What a schema says of the most of anything, by its place there: pairs and what is longer by nature aside."""
     items = form.items() if isinstance(form, dict) else enumerate(form) if isinstance(form, list) else []
     for name, value in items:
         if name in ("maxItems", "maxLength", "maximum") and value > MORE_THAN_A_PAIR:

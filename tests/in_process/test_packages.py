@@ -1,5 +1,4 @@
-"""What the tests need from Debian stands in one list, which `.ci/run` installs and the pages tell to install.
-`transcripts/tools/packages.t` shows how."""
+"""What the tests need from Debian stands in one list, for `.ci/run` and the pages: `transcripts/tools/packages.t`."""
 import re
 from pathlib import Path
 

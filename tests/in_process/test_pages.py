@@ -1,5 +1,4 @@
-"""What pages and comments cite is there: links lead somewhere, and the sources have each name. A public item has a
-comment."""
+"""What pages and comments cite is there: links lead somewhere, and the sources have each name and its comment."""
 import os
 import re
 import unittest
@@ -35,7 +34,6 @@ def blocks_left_out(text):
 
 
 def links(text):
-    """The targets of a page's links."""
     return [target for _, target in ANY_LINK.findall("\n".join(blocks_left_out(text)))]
 
 

@@ -1,5 +1,4 @@
-"""How files are put below a prefix and removed again, by a few files: what is written where, in which order, and what a
-failure leaves."""
+"""How files are put below a prefix and removed: what is written where, in which order, and what a failure leaves."""
 import os
 import tempfile
 import unittest
@@ -20,8 +19,7 @@ LISTED = ["./", "bin/", "bin/run", "lib/", "lib/registryd/", LIST, "share/", "sh
 
 
 def below(folder):
-    """Each path below a folder: a folder's with a slash behind it, a file with its bytes and who may do what, a
-    link with where it leads."""
+    """Each path below a folder: a folder's ends in a slash, a file has its bytes and mode, a link where it leads."""
     found = {}
     for path in sorted(folder.rglob("*")):
         name = str(path.relative_to(folder))

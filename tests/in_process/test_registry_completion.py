@@ -51,15 +51,15 @@ class Lines(unittest.TestCase):
         self.enterContext(mock.patch.object(completion, "published", published))
 
     def test_words(self):
-        for before, current, wanted in (
-            ("", "pub", ["publish "]), ("", "ex", ["exit "]), ("", "h", ["help "]), ("", "e", ["exit "]),
-            ("registry ", "sho", ["show "]), ("registry ", "ex", ["exit "]),
-            ("show ", "ex", []), ("show registry ", "", []), ("registry show ", "lo", ["lock ", "log "]),
-            ("show ", "lo", ["lock ", "log "]), ("yank 'log' ", "1.1", ["1.1.0 "]), ("show 'a", "x", []),
-            ("resolve ", "log@", ["log@1.0.0 ", "log@1.1.0 "]), ("resolve ", "log@=1.1", ["log@=1.1.0 "]),
-            ("resolve ", "log@^", ["log@^1.0.0 ", "log@^1.1.0 "]),
-            ("resolve app ", "log@>=1.1", ["log@>=1.1.0 "]), ("resolve ", "zebra@", []), ("resolve ", "log@2", []),
-        ):
+        for before, current, wanted in (("", "pub", ["publish "]), ("", "ex", ["exit "]), ("", "h", ["help "]),
+                                        ("registry ", "sho", ["show "]), ("registry ", "ex", ["exit "]),
+                                        ("show ", "ex", []), ("show registry ", "", []), ("", "e", ["exit "]),
+                                        ("registry show ", "lo", ["lock ", "log "]), ("show 'a", "x", []),
+                                        ("show ", "lo", ["lock ", "log "]), ("yank 'log' ", "1.1", ["1.1.0 "]),
+                                        ("resolve ", "log@", ["log@1.0.0 ", "log@1.1.0 "]), ("resolve ", "log@2", []),
+                                        ("resolve ", "log@=1.1", ["log@=1.1.0 "]), ("resolve ", "zebra@", []),
+                                        ("resolve ", "log@^", ["log@^1.0.0 ", "log@^1.1.0 "]),
+                                        ("resolve app ", "log@>=1.1", ["log@>=1.1.0 "])):
             assert line_completion.offered(before, current) == wanted, (before, current)
 
     def test_files(self):

@@ -2,7 +2,6 @@
 import unittest
 from types import SimpleNamespace
 
-
 from registry_cli.commands import import_index as alone
 
 
@@ -15,7 +14,6 @@ def refused(*rows):
 
 
 class Requested(unittest.TestCase):
-    """What is told of requests for each package alone."""
     TWO = "two versions of {} are needed, and a selection has one"
     ROOT, NEED = {"fact": "root"}, {"fact": "need", "index": 0}
 

@@ -75,9 +75,7 @@ class Ends(Printed):
         for fault, told in ((Refused("no"), '{"error":"refused","message":"no"}'),
                             (Usage("no"), '{"error":"usage","message":"no"}'),
                             (Failed("no"), '{"error":"failed","message":"no"}'),
-                            (Refused("no",
-                                     {"error": 7, "name": "Is",
-                                      "revision": 3}), '{"error":7,"message":"no","name":"Is","revision":3}'),
+                            (Refused("no", {"error": 7, "name": "Is"}), '{"error":7,"message":"no","name":"Is"}'),
                             (MemoryError(), '{"error":"failed","message":"there is not enough memory"}'),
                             (OSError(28, "Full", "x"), '{"error":"failed","message":"x: Full"}')):
             def run(given, out):

@@ -1,5 +1,4 @@
-"""What `registry page` holds of a journal, in one process: what is shown while the file changes, and searches that end
-or wait, over a program that is made up."""
+"""What `registry page` holds of a journal that changes, and searches that end or wait, over a made-up program."""
 import json
 import threading
 import unittest

@@ -1,5 +1,4 @@
-"""Parts of the command registry in one process, by examples worked by hand: needs, files and a new journal, what is
-visible, and a bar."""
+"""Parts of the command registry by examples worked by hand: needs, files, a new journal, what is visible, a bar."""
 import io
 import os
 import signal
@@ -138,9 +137,8 @@ class TestFaults:
             journal_file.write_new(path, b"text", like)
             assert files.read_file(path) == b"text" and sorted(os.listdir(folder)) == ["like", "new"]
             assert os.stat(path).st_mode & 0o777 == 0o604
-            with pytest.raises(Failed,
-                               match=rf"\A{path} is there already, and nothing is written over it: name "
-                               rf"another file\Z"):
+            there = "is there already, and nothing is written over it: name another file"
+            with pytest.raises(Failed, match=rf"\A{path} {there}\Z"):
                 journal_file.write_new(path, b"x", like)
             with mock.patch.object(journal_file, "refuse_existing", side_effect=[None, Failed("taken")]):
                 with pytest.raises(Failed, match="taken"):

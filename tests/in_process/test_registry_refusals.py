@@ -33,6 +33,6 @@ class TestRefusals:
                             (3, "there are v0, v1 and v2"), (4, "there are v0, v1 and 2 more"),
                             (9, "there are v0, v1 and 7 more")):
             assert there_are([f"v{number}" for number in range(count)]) == said
-        assert versions_told([["1.0.0-rc.1", False], ["1.0.0", True], ["0.2.0",
-                                                                       False]]) == "there are 1.0.0-rc.1 and 0.2.0"
+        some = [["1.0.0-rc.1", False], ["1.0.0", True], ["0.2.0", False]]
+        assert versions_told(some) == "there are 1.0.0-rc.1 and 0.2.0"
         assert versions_told([["0.2.0", True], ["1.0.0", True]]) == "there are 1.0.0, yanked and 0.2.0, yanked"

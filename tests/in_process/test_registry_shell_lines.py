@@ -8,7 +8,6 @@ import tempfile
 import unittest
 from unittest import mock
 
-
 from registry_cli import shell
 
 

@@ -1,5 +1,4 @@
-"""The table of subcommands and what reads words by it, in one process: which values words have, the edges of numbers,
-and what comes before a subcommand."""
+"""The table of subcommands and what reads words by it: values, the edges of numbers, what is before a subcommand."""
 import json
 
 import pytest
@@ -36,9 +35,8 @@ class TestWords:
             for value in (least, most):
                 assert read(f"{line} {value}")[member] == value, line
             for value in (least - 1, most + 1, "x", "1.0", "\u0663", "1_0"):
-                with pytest.raises(Usage,
-                                   match=rf"\Aargument {line.split()[-1]}: {value} is no number from {least} "
-                                   rf"to {most}: see `registry .* --help`\Z" if value != -1 else "argument"):
+                told = f"{line.split()[-1]}: {value} is no number from {least} to {most}: see `registry .* --help`"
+                with pytest.raises(Usage, match=rf"\Aargument {told}\Z" if value != -1 else "argument"):
                     read(f"{line} {value}")
 
     def test_options_before_a_subcommand(self):

@@ -31,13 +31,12 @@ class TestHeldBack:
         newer = {**NOW, "zlib": "2.0.0"}
         a, w = "app 1.0.0 -> 2.0.0 (beyond ^1.0.0)", "web 1.0.0 -> 1.1.0"
         went = {name: text for name, text in newer.items() if name != "old"}
+        more = {"app": "2.0.0", "log": "0.9.0", "web": "1.1.0"}
         for nearest, told in (({**newer, "app": "2.0.0"}, f"with it {a}"),
                               ({**newer, "app": "2.0.0", "web": "1.1.0"}, f"with it {a}; {w}"),
                               ({**went, "web": "1.1.0"}, f"with it old 1.0.0; {w}"),
-                              ({**newer, "app": "2.0.0", "log": "0.9.0", "web": "1.1.0",
-                                "new": "1.0.0"}, f"with it {a}; log 1.0.0 -> 0.9.0 (older); 1 more"),
-                              ({**went, "app": "2.0.0", "log": "0.9.0",
-                                "web": "1.1.0"}, f"with it {a}; log 1.0.0 -> 0.9.0 (older); 2 more")):
+                              ({**newer, **more, "new": "1.0.0"}, f"with it {a}; log 1.0.0 -> 0.9.0 (older); 1 more"),
+                              ({**went, **more}, f"with it {a}; log 1.0.0 -> 0.9.0 (older); 2 more")):
             assert self.told(nearest) == (told, [[["app", "^1"], ["zlib", "=2.0.0"]]])
 
     def test_the_request_and_what_is_not_found_out(self):

@@ -77,7 +77,6 @@ class TestSupervising:
 
 
 class Faults(unittest.IsolatedAsyncioTestCase):
-    """Whether a program ended since it could not write the journal."""
     SAID = "registryd: journal a: b: can't be written: No space left on device (os error 28)\n"
     FAULT = "the journal can't be written: No space left on device"
 

@@ -13,8 +13,7 @@ GIVEN = SimpleNamespace(seconds=10, workers=1, budget=None, readers=2)
 
 
 class Program:
-    """What stands for a reader's program: it has the lines that it was asked, and a processor for a tenth of the
-    time."""
+    """Stands for a reader's program: it has the lines that it was asked, and a processor for a tenth of the time."""
 
     def __init__(self, case):
         self.case, self.lines, self.is_killed, self.spent = case, deque(), False, lambda: case.time / 10
@@ -33,8 +32,6 @@ class Program:
 
 
 class Asker:
-    """A client that keeps what it is told."""
-
     def __init__(self, pool):
         self.told, self.has_gone, self.is_slow, self.takes_commands, self.asked = [], False, False, True, [None]
         watch = SimpleNamespace(answered=lambda asked, _: self.told.append((asked.line, asked.reply)))
@@ -52,7 +49,6 @@ class Case(unittest.TestCase):
         self.one, self.two, self.three = (Asker(self.pool) for _ in range(3))
 
     def pool_of(self, count):
-        """Readers that have begun."""
         self.time = 100.0
         loop = SimpleNamespace(time=lambda: self.time, call_later=lambda *_: None)
         keeper = SimpleNamespace(revision=7, followers=[])
@@ -63,7 +59,6 @@ class Case(unittest.TestCase):
         return pool
 
     def ask(self, *requests, op="resolve"):
-        """Asks lines of clients."""
         for of, line in requests:
             self.pool.ask(client.Asked(of, line, op))
 
@@ -176,8 +171,7 @@ class Slow(Case):
 
 class Asking(Case):
     def test_what_each_is_asked(self):
-        """One request at a time, but for the last of several: that one has four at most, and takes more once
-        these are answered."""
+        """One at a time, but for the last of several: that has four at most, and takes more once these are answered."""
         self.pool = self.pool_of(3)
         first, second, last = self.pool.readers
         self.ask(*((Asker(self.pool), b"%d" % number) for number in range(9)))
@@ -225,8 +219,7 @@ class AtRandom(Case):
         return waits
 
     def run_programs(self, spent, back):
-        """What the programs do in a step: one that was ended begins again, and else answers what it has worked
-        at for long enough."""
+        """A step of the programs: one that was ended begins again, else it answers what it worked at long enough."""
         for it in self.pool.readers:
             if it.child.is_killed:
                 if self.time >= back.setdefault(it, self.time + self.BEGIN):

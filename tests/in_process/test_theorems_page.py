@@ -12,7 +12,6 @@ BLOCK = re.compile(r"(?m)(?:^    .*\n)+")
 
 
 def shown(text):
-    """The blocks of the section."""
     part = text.partition(f"{TITLE}\n")[2].partition("\n## ")[0] + "\n"
     return [textwrap.dedent(block).rstrip("\n") for block in BLOCK.findall(part)]
 

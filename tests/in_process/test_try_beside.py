@@ -1,5 +1,4 @@
-"""Wrong bodies are tried beside the gate, and the static library is built: each over what is proved, none instead of a
-proof. The prover is a stub here."""
+"""Wrong bodies are tried, and the static library built, beside the gate over what is proved; the prover is a stub."""
 import contextlib
 import io
 import os
@@ -7,7 +6,6 @@ import tempfile
 import unittest
 from pathlib import Path
 from unittest import mock
-
 
 from dev.edits import try_beside, try_rounds
 from dev.edits.edit_files import Edit
@@ -20,20 +18,18 @@ EDITED = ("low", "mid", "high")
 
 class Beside(unittest.TestCase):
     def setUp(self):
-        self.folder = tempfile.TemporaryDirectory()
-        self.addCleanup(self.folder.cleanup)
+        self.folder = self.enterContext(tempfile.TemporaryDirectory())
         self.begun, self.built, self.static = [], [], []
         listed = [[Edit(name, f"{name}-{number}.edit", None, ()) for number in range(2)] for name in EDITED]
         for module, name, stub in ((try_beside, "stands_on", lambda: CRATES), (try_beside, "listed", lambda: listed),
                                    (try_beside, "library", self.library), (try_rounds, "library", self.library),
-                                   (try_beside, "build_below", self.build_below), (try_beside, "try_in_rounds",
-                                           self.in_rounds),
+                                   (try_beside, "build_below", self.build_below),
+                                   (try_beside, "try_in_rounds", self.in_rounds),
                                    (try_beside.prove_library, "build", self.build_static)):
-            self.addCleanup(setattr, module, name, getattr(module, name))
-            setattr(module, name, stub)
+            self.enterContext(mock.patch.object(module, name, stub))
 
     def library(self, name):
-        return os.path.join(self.folder.name, name, "out", "rlib", f"{name}.rlib")
+        return os.path.join(self.folder, name, "out", "rlib", f"{name}.rlib")
 
     def build(self, name, text="by the gate"):
         os.makedirs(self.library(name), exist_ok=True)
@@ -91,19 +87,17 @@ class Beside(unittest.TestCase):
 
     def test_what_they_came_to_is_told_and_counted_by_kinds(self):
         kinds = [BY_CLAUSE, BY_PROOF, BY_PROOF, BY_NAME, NOT_REFUSED, BAD]
-        with mock.patch.object(try_beside, "listed", lambda: [[Edit("low", f"{number}.edit", None, ())
-                                                               for number in range(6)]]), \
-                mock.patch.object(try_beside, "try_in_rounds", lambda edits,
-                                  room: [(edit, (kinds[int(edit.file[0])], "")) for edit in edits]), \
+        listed = [[Edit("low", f"{number}.edit", None, ()) for number in range(6)]]
+        with mock.patch.multiple(try_beside, listed=lambda: listed, try_in_rounds=lambda edits, room: [
+                (edit, (kinds[int(edit.file[0])], "")) for edit in edits]), \
                 try_beside.Tries(4, "top") as tries, contextlib.redirect_stdout(io.StringIO()) as said:
             self.prove(tries, "low")
             assert tries.end(True) == (3, 3)
         *each, last = said.getvalue().splitlines()
         assert [line.split(": ")[1] for line in each] == kinds
-        assert set(last.removeprefix("wrong bodies: ").split(", ")) == {"2 refused only because a proof no longer fits",
-                                                                        "1 refused by a clause",
-                                                                        "1 refused only because a name is gone",
-                                                                        "1 not refused", "1 bad"}
+        assert sorted(last.removeprefix("wrong bodies: ").split(", ")) == [
+            "1 bad", "1 not refused", "1 refused by a clause", "1 refused only because a name is gone",
+            "2 refused only because a proof no longer fits"]
 
     def test_no_edit_of_a_crate_that_failed_or_stands_on_one_is_tried(self):
         with try_beside.Tries(4, "top") as tries:

@@ -203,6 +203,10 @@ class WithService(Called):
 
 
 NEEDING = publish("log", "1.0.0", ["a ^1", "b-c *"])
+FORMS = ['{ "version" : "1.0.0","needs":[ ["a" ,"^1"],[ "b-c","*" ] ],"name":"log","op":"publish"}\r',
+         r'{"op":"publish","name":"\u006cog","version":"1.0.0","needs":[["a","^1"],["b-\u0063","*"]]}',
+         r'{"op":"list","\u006fp":"publish","name":"x","version":"1.0.0","name":"log","needs":[["a","^1"],["b-c","*"]]}'
+         ]
 
 
 class WithScripts(Called):
@@ -225,26 +229,19 @@ class WithScripts(Called):
     def test_forms_of_lines(self):
         """However a line is written, it is the command that a journal has."""
         for line, is_same in ((NEEDING, True),
-                              ('{ "version" : "1.0.0","needs":[ ["a" ,"^1"],[ "b-c","*" ] '
-                               '],"name":"log","op":"publish"}\r', True),
-                              (r'{"op":"publish","name":"\u006cog","version":"1.0.0","needs":[["a","'
-                               r'^1"],["b-\u0063","*"]]}', True),
-                              (r'{"op":"list","\u006fp":"publish","name":"x","version":"1.0.0","name'
-                               r'":"log","needs":[["a","^1"],["b-c","*"]]}', True),
+                              *((it, True) for it in FORMS),
                               (publish("log", "1.0.0", ["b-c *", "a ^1"]), False),
                               (publish("log", "1.0.0", ["a ^1"]), False), (publish("log", "1.0.0"), False),
                               (publish("logs", "1.0.0", ["a ^1", "b-c *"]), False), (NEEDING + "x", False),
                               (NEEDING[:-1], False), ("", False), ("{}", False), ('"' * 9, False), ("{" * 200, False),
                               (NEEDING.replace("log", "l\\u0000og"), False), (NEEDING.replace("log", "lög"), False),
                               (NEEDING.replace('"^1"', '"^1", "^1"'), False), (NEEDING.replace('"log"', "7"), False)):
-            service = self.script(0, [journal_line(NEEDING)],
-                                  [(1, ""), (1, '{"error":19,"name":"BadLine","revision":1}\n')])
             bad = '{"error":19,"name":"BadLine","revision":1}\n'
+            service = self.script(0, [journal_line(NEEDING)], [(1, ""), (1, bad)])
             assert self.tried("lines", service.path, [line]) == (accepted(1) if is_same else bad), line
 
     def test_what_can_not_be_looked_up(self):
-        """A journal that is cut off, and a connection that is not ended, on which the command may still be
-        under way."""
+        """A journal that is cut off, and a connection that is not ended, on which the command may yet be under way."""
         for scripts in ([(1, ""), (0, "..."), (0, "..."), (0, "")], [(1, UNAVAILABLE + "..."), (1, accepted(2))]):
             service = self.script(1, [PUBLISHED], scripts)
             service.journal = service.journal.removesuffix("end 1\n")

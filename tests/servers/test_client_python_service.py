@@ -1,5 +1,4 @@
-"""The client in Python over the socket of a service: the same calls with the same answers, also where the service ends
-meanwhile and is begun again."""
+"""The client in Python over a service's socket: the same calls and answers, also where the service is begun again."""
 import os
 import re
 import signal

@@ -22,6 +22,8 @@ from tests.support.over_small_etcd import A1, A2, B1, Case, accepted, deaf, refu
 from tests.support.ports import free_ports
 from tests.support.program import LIST, TOP, publish, resolve, skip_without, yank
 
+SELECTED = '{"place":%d,"revision":%d,"seat":%d,"selected":[["a","%d.0.0"]]}'
+
 
 class OverSmallEtcd(Case):
     # ---- what is answered
@@ -37,7 +39,7 @@ class OverSmallEtcd(Case):
         front = self.front(hook=hook)
         assert front.ask(LIST) == ['{"packages":[],"place":0,"revision":0,"seat":1}']
         entering.append(A1)
-        selected = '{"place":1,"revision":1,"seat":1,"selected":[["a","1.0.0"]]}'
+        selected = SELECTED % (1, 1, 1, 1)
         none = '{"place":1,"refused":true,"revision":1,"seat":1}'
         assert front.ask(resolve("a *"), resolve("a ^2"), resolve("a *")) == [selected, none, selected]
         # what was accepted is known as accepted, and takes no cell once more
@@ -89,11 +91,9 @@ class OverSmallEtcd(Case):
         first, second = self.front(1, hook=deaf), self.front(2, hook=deaf)
         for n in range(1, 20, 2):
             assert first.ask(publish("a", f"{n}.0.0")) == [accepted(n)]
-            assert second.ask(resolve("a *")) == [f'{{"place":{n},"revision":{n},"seat":2,"selected'
-                                                  f'":[["a","{n}.0.0"]]}}']
+            assert second.ask(resolve("a *")) == [SELECTED % (n, n, 2, n)]
             assert second.ask(publish("a", f"{n + 1}.0.0")) == [accepted(n + 1, seat=2)]
-            assert first.ask(resolve("a *")) == [f'{{"place":{n + 1},"revision":{n + 1},"seat":1,"selected":[["a","'
-                                                 f'{n + 1}.0.0"]]}}']
+            assert first.ask(resolve("a *")) == [SELECTED % (n + 1, n + 1, 1, n + 1)]
 
     def test_a_stale_front_is_brought_up_by_the_watch_and_asks_nothing(self):
         calls = []
@@ -189,7 +189,8 @@ class OverSmallEtcd(Case):
     # ---- what lies
 
     def put(self, place, value):
-        self.etcd.answer("/v3/kv/put", {"key": fronts_key(place), "value": value})
+        key = b64encode(f"registry/cells/{place:08}".encode()).decode()
+        self.etcd.answer("/v3/kv/put", {"key": key, "value": value})
 
     def test_what_nobody_can_read_changes_nothing(self):
         nonsense = ["", "bm9uc2Vuc2U=", encoded({"command": {"op": "list"}, "seat": 1, "serial": 1, "writer": "w"}),
@@ -237,10 +238,6 @@ class OverSmallEtcd(Case):
         assert front.end() == (1, "registryd-etcd: the snapshot does not begin with what was accepted before\n")
         self.etcd.answer("/v3/kv/put", {"key": b64encode(b"registry/snapshot").decode(), "value": encoded({})})
         assert "the snapshot has another form" in self.fails("serve")
-
-
-def fronts_key(place):
-    return b64encode(f"registry/cells/{place:08}".encode()).decode()
 
 
 def encoded(value):

@@ -1,5 +1,4 @@
-"""An etcd that is full, and one that answers what no etcd answers: what fronts and `compact` do then. No entry is lost,
-and what is wrong is told in a line."""
+"""An etcd that is full, or answers what no etcd does: no entry is lost, and what is wrong is told in a line."""
 import contextlib
 import re
 import unittest
@@ -21,8 +20,8 @@ from tests.support.program import PROGRAM, in_time, publish
 ENTRIES = [publish(f"p{number}", "1.0.0") for number in range(20)]
 ONE, MORE = publish("one", "1.0.0"), publish("more", "1.0.0")
 FULL = r"\Aetcd refuses: etcdserver: mvcc: database space exceeded: `registryd-etcd compact` makes room\Z"
-NO_ROOM = (r"\Aetcd has no room for a snapshot, even after all that is of no use was "
-           r"deleted: --keep 0 deletes more cells, and etcd's --quota-backend-bytes sets how much " r"it may hold\Z")
+NO_ROOM = (r"\Aetcd has no room for a snapshot, even after all that is of no use was deleted: --keep 0 deletes more "
+           r"cells, and etcd's --quota-backend-bytes sets how much it may hold\Z")
 
 
 class Room(Case):
@@ -42,8 +41,8 @@ class Room(Case):
 
     def enter(self, *lines):
         with self.front() as front:
-            return [reply.decode() for replies in front.answer([Line(number, it.encode()) for number,
-                                                                it in enumerate(lines, 1)]) for reply in replies]
+            told = front.answer([Line(number, it.encode()) for number, it in enumerate(lines, 1)])
+            return [reply.decode() for replies in told for reply in replies]
 
     def compact(self, kept, *gates):
         with self.front(*gates) as front:

@@ -18,20 +18,18 @@ from tests.support.program import LIST, TOP
 
 def test_words_that_can_not_be_meant():
     rows = Path(TOP, "tests/support/data/etcd_words.txt").read_text(encoding="utf-8").splitlines()[1:]
-    for words, told in (
-        *((shlex.split(words), told) for words, _, told in (row.partition("=> ") for row in rows)),
-        (["serve", "--seat", "9" * 5000], f"argument --seat: '{'9' * 5000}' is no whole number from 1 to 4294967295"),
-        (["serve", "--prefix", b"\xff"], "argument --prefix: '\\udcff' is no name"),
-        (["serve", "--writer", "a\nb"], "argument --writer: 'a\\nb' is no name"),
-    ):
+    number = "9" * 5000
+    for words, told in [
+            *((shlex.split(words), told) for words, _, told in (row.partition("=> ") for row in rows)),
+            (["serve", "--seat", number], f"argument --seat: '{number}' is no whole number from 1 to 4294967295"),
+            (["serve", "--prefix", b"\xff"], "argument --prefix: '\\udcff' is no name"),
+            (["serve", "--writer", "a\nb"], "argument --writer: 'a\\nb' is no name")]:
         done = subprocess.run([*fronts.ETCD, *words], stdin=subprocess.DEVNULL, capture_output=True, timeout=100)
         wanted = 2, b"", f"registryd-etcd: {told}: see registryd-etcd --help\n"
         assert (done.returncode, done.stdout, done.stderr.decode()) == wanted, words
 
 
 class Patience(unittest.TestCase):
-    """Who waits for members that don't answer gives up when it should."""
-
     def setUp(self):
         self.enterContext(program.in_time(100))
 
@@ -43,15 +41,12 @@ class Patience(unittest.TestCase):
             taken.listen()
         return f"127.0.0.1:{taken.getsockname()[1]}"
 
-    def gives_up(self, members, timeout, patience):
-        with pytest.raises(Fault, match=rf"\Ano member of etcd answers, for {patience} seconds now: ."):
-            Gateway(endpoints(members), timeout=timeout, patience=patience).insist("/v3/kv/range", {})
-
     def test_members_that_say_nothing_or_are_not_there(self):
         silent, missing = ",".join([self.opened(True), self.opened(True)]), self.opened(False)
         for members, timeout, patience in ((silent, 3, 2), (silent, 3, 4), (silent, 60, 2), (missing, 3, 3)):
             begun = time.monotonic()
-            self.gives_up(members, timeout, patience)
+            with pytest.raises(Fault, match=rf"\Ano member of etcd answers, for {patience} seconds now: ."):
+                Gateway(endpoints(members), timeout=timeout, patience=patience).insist("/v3/kv/range", {})
             # a busy machine may let it wait longer
             assert patience - 0.1 < time.monotonic() - begun < patience + 20, (members, timeout, patience)
 

@@ -1,5 +1,4 @@
-"""Clients of a service that ask hard requests without pause, beside one that asks easy ones. `dev/long/hard_clients.py`
-does so for longer."""
+"""Clients that ask a service hard requests without pause, beside easy ones. `dev/long/hard_clients.py` asks longer."""
 import contextlib
 import io
 import os

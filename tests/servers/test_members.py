@@ -45,8 +45,7 @@ class Case(unittest.TestCase):
 
     @skip_without("etcd", "etcd-server")
     def test_a_run_that_is_stopped(self):
-        """It ends soon, though clients ask for a minute more and something goes wrong all the time, and its
-        members with it."""
+        """It ends soon, and its members with it, though clients ask for a minute more and something always breaks."""
         words = [sys.executable, program.TOP, HISTORIES, "--loopback", "--histories", "1", "--seconds", "60",
                  "--seed", "2"]
         with subprocess.Popen(words, stdout=subprocess.PIPE, stderr=subprocess.PIPE, cwd=self.folder,

@@ -1,5 +1,4 @@
-"""Fronts over etcd whose replicas learnt differently, since they were asked other requests in other orders: at one
-place they select the same."""
+"""Fronts over etcd whose replicas learnt differently, by other requests in other orders, select the same at a place."""
 import json
 
 from bench import workloads

@@ -1,5 +1,4 @@
-"""What docs/REGISTRY_COMMAND.md tells to type prints what it says, and it tells of each subcommand, status and
-variable."""
+"""What docs/REGISTRY_COMMAND.md has typed prints what it says; it tells of each subcommand, status and variable."""
 import re
 import tempfile
 

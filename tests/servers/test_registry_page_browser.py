@@ -1,5 +1,4 @@
-"""The page of `registry page` in a browser: clicks, typing, the back button, links, at three widths. Its graphs and
-refusals have tests of their own."""
+"""The page of `registry page` in a browser: clicks, typing, the back button, links, at three widths."""
 import json
 import re
 from urllib.parse import quote, urlencode
@@ -109,10 +108,9 @@ class Packages(InBrowser):
         bad = "<img src=x onerror=\"document.title='taken'\">"
         self.journal = self.path(bad.replace("/", ""))
         self.show("", *WORKED)
-        for path, said in ((f"#/search?text={quote(bad)}", bad.lower()), (f"#/package/{quote(bad)}", bad),
-                           (f"#/{quote(bad)}", "no such view"), (f"#/resolve?{urlencode({'need': bad})}",
-                                                                 "is not one")):
-            self.browser.open(f"{self.server.address}{path}")
+        for path, said in ((f"search?text={quote(bad)}", bad.lower()), (f"package/{quote(bad)}", bad),
+                           (quote(bad), "no such view"), (f"resolve?{urlencode({'need': bad})}", "is not one")):
+            self.browser.open(f"{self.server.address}#/{path}")
             self.browser.until(f"document.querySelector('main').textContent.includes({json.dumps(said)})"
                                " && document.getElementById('about').textContent.includes('<img')")
             assert self.browser.value("[document.images.length, document.title === 'taken']") == [0, False]

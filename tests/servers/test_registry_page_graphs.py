@@ -1,5 +1,4 @@
-"""The graphs of `registry page` in a browser, and refusals whose sentences open, light up what they speak of, and
-unfold."""
+"""The graphs of `registry page` in a browser, and refusals whose sentences open, light up what they name, unfold."""
 import json
 import re
 from urllib.parse import urlencode

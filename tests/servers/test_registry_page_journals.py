@@ -115,9 +115,8 @@ class Searches(Served):
             assert self.shown.running and not answers
             assert len(self.told("resolve", need="easy", page="two")["selected"]) == 1
             thread.join()
-        assert (answers[0][0],
-                json.loads(answers[0][2])["error"]) == (503,
-                                                        "no answer was found in 5 seconds, and the search was ended")
+        told = "no answer was found in 5 seconds, and the search was ended"
+        assert (answers[0][0], json.loads(answers[0][2])["error"]) == (503, told)
 
 
 class Command(Served):

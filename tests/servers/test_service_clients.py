@@ -1,5 +1,4 @@
-"""A connection of a service, over stand-ins of the service and of the other end: the order of its lines and replies,
-and what it may take."""
+"""A connection of a service, over stand-ins of its ends: the order of lines and replies, and what it may take."""
 import json
 import random
 from pathlib import Path

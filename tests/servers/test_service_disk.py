@@ -4,6 +4,7 @@ import contextlib
 import json
 import os
 import random
+import re
 import signal
 import subprocess
 import time
@@ -34,8 +35,7 @@ def refused(reason, revision):
 
 class Faulty(Case):
     def is_told(self, service, client, reason, revision):
-        """Commands are refused, and it is told why, at each moment; all else is as always, and the program is
-        not begun again and again."""
+        """Commands are refused and told why, each time; all else is as always, and nothing begins again for ever."""
         for number in range(POLLS):
             assert service.get("/health") == (503, reason + "\n")
             assert client.ask(publish("p", f"9.{number}.0")) == [refused(reason, revision)]
@@ -47,10 +47,8 @@ class Faulty(Case):
 
     @staticmethod
     def restarts(service):
-        found = [it
-                 for it in service.get("/metrics")[1].splitlines()
-                 if it.startswith('registryd_restarts_total{program="keeper"}')]
-        return int(found[0].split()[1]) if found else 0
+        found = re.search(r'^registryd_restarts_total{program="keeper"} (\d+)', service.get("/metrics")[1], re.M)
+        return int(found[1]) if found else 0
 
     def goes_on(self, service, client, revision):
         wait_for(lambda: service.get("/health") == (200, "ok\n"))
@@ -59,8 +57,6 @@ class Faulty(Case):
 
 
 class Full(Faulty):
-    """A real one, of a small file system."""
-
     def setUp(self):
         super().setUp()
         self.folder = self.enterContext(small_disk(DISK))
@@ -101,12 +97,11 @@ class Full(Faulty):
     def clients_are_told(self, service, revision):
         """At once, and not that nothing is known."""
         begun = time.monotonic()
-        done = subprocess.run([os.path.join(TOP, "registry"), "publish", "a", "1.0.0", "--connect",
-                               service.socket], stdout=subprocess.PIPE, stderr=subprocess.PIPE, text=True,
-                              timeout=services.PATIENCE, env={**os.environ, "REGISTRY_PROGRAM": PROGRAM})
-        assert (done.returncode, done.stdout, done.stderr) == (3, "",
-                                                               f"registry: the service at {service.socket} "
-                                                               f"accepts nothing now: {FULL}\n")
+        done = subprocess.run([os.path.join(TOP, "registry"), "publish", "a", "1.0.0", "--connect", service.socket],
+                              capture_output=True, text=True, timeout=services.PATIENCE,
+                              env={**os.environ, "REGISTRY_PROGRAM": PROGRAM})
+        told = f"registry: the service at {service.socket} accepts nothing now: {FULL}\n"
+        assert (done.returncode, done.stdout, done.stderr) == (3, "", told)
         with registryd.Registry(connect=service.socket) as registry:
             with pytest.raises(registryd.Refusal, match=FULL):
                 registry.publish("a", "1.0.0")
@@ -195,8 +190,8 @@ class Failing(Faulty):
 
     def test_a_sync_that_fails(self):
         """The line stands then: of that it is told that it is not known, and what is looked up there is so."""
-        service, reason = self.begin_by(self.broken("fdatasync", 1,
-                                                    "EIO")), "the journal can't be synced: Input/output error"
+        service = self.begin_by(self.broken("fdatasync", 1, "EIO"))
+        reason = "the journal can't be synced: Input/output error"
         with registryd.Registry(connect=service.socket) as registry, service.client() as client:
             assert registry.publish("log", "2.0.0") == 2
             self.is_told(service, client, reason, 2)

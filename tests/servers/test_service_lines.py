@@ -70,8 +70,7 @@ class Order(Case):
         self.compare(without_budget(maker.line(maker.value()).replace(b"\n", b" ") for _ in range(2_000)))
 
     def test_twenty_clients_at_once(self):
-        """Each client's replies come in its order, at revisions that never fall, and each sees what it was told
-        before."""
+        """Each client's replies come in order, at revisions that never fall, and each sees what it was told before."""
         service = self.begin()
         with ThreadPoolExecutor(20) as pool:
             list(pool.map(functools.partial(self.talk, service), range(20)))

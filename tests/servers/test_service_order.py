@@ -65,8 +65,7 @@ class Order(Case):
 
 class Revisions(Case):
     def test_they_never_fall_where_a_reader_is_held_up(self):
-        """What waits behind its first request is asked of the other reader, at a later revision than what that
-        was asked before."""
+        """What waits behind its first request is asked of the other reader, at a later revision than that was."""
         service = self.begin()
         with service.client() as client, service.client() as other:
             client.ask(LINES[0])

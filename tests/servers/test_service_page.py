@@ -44,16 +44,12 @@ class Unit(unittest.TestCase):
         self.folder = Path(self.enterContext(tempfile.TemporaryDirectory()))
         self.prefix = self.folder / "the prefix"
         self.install()
-        self.unit = self.read_unit()
+        self.unit = configparser.RawConfigParser(strict=True)
+        self.unit.optionxform = str
+        self.unit.read_string((self.prefix / "lib/systemd/system/registryd.service").read_text())
 
     def install(self):
         install(self.prefix, pieces(Program(Path(PROGRAM), COMPILED, ""), str(self.prefix)))
-
-    def read_unit(self):
-        unit = configparser.RawConfigParser(strict=True)
-        unit.optionxform = str
-        unit.read_string((self.prefix / "lib/systemd/system/registryd.service").read_text())
-        return unit
 
     def begin(self, options=""):
         """Begins it as systemd does: with its folders, with these options, and told where it says that it is ready."""
@@ -62,10 +58,9 @@ class Unit(unittest.TestCase):
                  for it in (options.split() if word == "$REGISTRYD_OPTIONS" else [word])]
         for name in ("State", "Runtime"):
             assert said[f"{name}Directory"] == "registryd"
-        (self.folder / "run").mkdir(exist_ok=True)
-        (self.folder / "lib").mkdir(exist_ok=True)
-        words = [it.replace("/run/registryd", str(self.folder / "run"))
-                 .replace("/var/lib/registryd", str(self.folder / "lib")) for it in words]
+        for there, name in (("/run/registryd", "run"), ("/var/lib/registryd", "lib")):
+            (self.folder / name).mkdir(exist_ok=True)
+            words = [it.replace(there, str(self.folder / name)) for it in words]
         heard = socket.socket(socket.AF_UNIX, socket.SOCK_DGRAM)
         path = self.folder / "notify"
         path.unlink(missing_ok=True)
@@ -79,6 +74,12 @@ class Unit(unittest.TestCase):
         with heard:
             assert heard.recv(100) == b"READY=1"
         return running
+
+    @staticmethod
+    def ran(*words, **variables):
+        done = subprocess.run(words, stdin=subprocess.DEVNULL, stdout=subprocess.PIPE, stderr=subprocess.STDOUT,
+                              text=True, timeout=60, env={**os.environ, **variables})
+        return done.returncode, done.stdout
 
     def test_it_is_begun_used_upgraded_and_nothing_is_lost(self):
         first = self.begin()
@@ -128,22 +129,15 @@ class Unit(unittest.TestCase):
     @skip_without("systemd-analyze", "systemd")
     def test_systemd_reads_it(self):
         path = self.prefix / "lib/systemd/system/registryd.service"
-        done = subprocess.run(["systemd-analyze", "verify", path], stdin=subprocess.DEVNULL,
-                              stdout=subprocess.PIPE, stderr=subprocess.STDOUT, text=True, timeout=60,
-                              env={**os.environ, "MANPATH": str(self.prefix / "share/man")})
-        assert (done.returncode, done.stdout) == (0, "")
-        done = subprocess.run(["systemd-analyze", "security", "--offline=yes", "--threshold=20", path],
-                              stdin=subprocess.DEVNULL, stdout=subprocess.PIPE, stderr=subprocess.STDOUT,
-                              text=True, timeout=60)
-        assert done.returncode == 0, done.stdout[-300:]
+        assert self.ran("systemd-analyze", "verify", path, MANPATH=str(self.prefix / "share/man")) == (0, "")
+        status, told = self.ran("systemd-analyze", "security", "--offline=yes", "--threshold=20", path)
+        assert status == 0, told[-300:]
 
     @skip_without("systemd-sysusers", "systemd")
     def test_its_user_is_made(self):
         root = self.folder / "root"
         (root / "etc").mkdir(parents=True)
-        done = subprocess.run(["systemd-sysusers", f"--root={root}",
-                               self.prefix / "lib/sysusers.d/registryd.conf"], stdin=subprocess.DEVNULL,
-                              stdout=subprocess.PIPE, stderr=subprocess.PIPE, text=True, timeout=60)
-        assert done.returncode == 0, done.stderr
+        status, told = self.ran("systemd-sysusers", f"--root={root}", self.prefix / "lib/sysusers.d/registryd.conf")
+        assert status == 0, told
         assert re.search("(?m)^registryd:", (root / "etc/passwd").read_text())
         assert re.search("(?m)^registryd:", (root / "etc/group").read_text())

@@ -33,8 +33,7 @@ def block(mark):
 class Behind(Case):
     @classmethod
     def setUpClass(cls):
-        """Types what makes the certificates, once for all tests, and makes one more of another authority:
-        openssl takes long to find primes."""
+        """Makes the certificates once, as typed, and one of another authority: openssl takes long to find primes."""
         super().setUpClass()
         cls.made = cls.enterClassContext(tempfile.TemporaryDirectory())
         typed = [f"{line} 2>&1" if line.startswith("openssl") else line for line in block("openssl req")]
@@ -50,8 +49,7 @@ class Behind(Case):
         self.begin_proxy()
 
     def begin_proxy(self):
-        """nginx with the page's block, which names this service, a free port of this machine, and the files
-        that were made."""
+        """nginx with the page's block, which names this service, a free port here, and the files that were made."""
         text = "\n".join(block("proxy_pass")).replace("/etc/registryd",
                                                       self.folder).replace("/run/registryd/socket", self.service.socket)
         text = text.replace(f"listen {PORT} ", f"listen 127.0.0.1:{self.port} ")
@@ -63,7 +61,6 @@ class Behind(Case):
         wait_for(lambda: self.is_listened_at(socket.AF_INET, ("127.0.0.1", self.port)))
 
     def follow(self, words):
-        """Begins a program that ends with the test."""
         running = self.enterContext(tied.Tied(words, stdin=subprocess.DEVNULL, stdout=subprocess.DEVNULL,
                                               stderr=subprocess.DEVNULL, cwd=self.folder))
         self.addCleanup(running.kill)

@@ -1,5 +1,4 @@
-"""The command `registry` asks a service that is begun again meanwhile. `tests/transcripts/service.t` has what each
-subcommand answers."""
+"""The command `registry` asks a service that is begun again meanwhile: for all else `tests/transcripts/service.t`."""
 import json
 import time
 from concurrent.futures import ThreadPoolExecutor
@@ -11,8 +10,6 @@ from tests.support.services import Case
 
 
 class Again(Case):
-    """A service is killed and begun again while it is asked."""
-
     def restarts(self, service, count):
         """Kills it so many times, and begins it anew each time."""
         for _ in range(count):

@@ -66,15 +66,13 @@ class Http(unittest.TestCase):
 
     def test_health(self):
         readers, keeper = self.service.readers, self.service.keeper
-        for change, said in ((lambda: None, "ok"), (lambda: setattr(readers, "are_late",
-                                                                    lambda: True), "no reader is free: requests wait"),
-                             (lambda: setattr(readers, "ready", lambda: 0), "no reader is ready: requests wait"),
-                             (lambda: setattr(keeper, "is_up",
-                                              False),
-                              "the program that keeps the journal is being begun again: commands wait"),
-                             (lambda: setattr(keeper.disk, "fault", "the disk is full"), "the disk is full"),
-                             (lambda: setattr(self.service, "is_stopping", True), "stopping")):
-            change()
+        again = "the program that keeps the journal is being begun again: commands wait"
+        for of, name, value, said in (
+                (keeper, "is_up", True, "ok"), (readers, "are_late", lambda: True, "no reader is free: requests wait"),
+                (readers, "ready", lambda: 0, "no reader is ready: requests wait"), (keeper, "is_up", False, again),
+                (keeper.disk, "fault", "the disk is full", "the disk is full"),
+                (self.service, "is_stopping", True, "stopping")):
+            setattr(of, name, value)
             assert self.get("/health") == ("200 OK" if said == "ok" else "503 Service Unavailable", f"{said}\n")
 
     def test_times(self):
@@ -148,9 +146,8 @@ class TestWatched:
             watch.restarted("reader", "it's gone")
             watch.cut_off(SimpleNamespace(name="me"))
             first, second = (line.partition(" ")[2] for line in Path(path).read_text(encoding="utf-8").splitlines())
-            assert (first,
-                    second) == ('event=restart program=reader why="it\'s gone"',
-                                "event=cut-off client=me why='it does not read its replies'")
+            assert first == 'event=restart program=reader why="it\'s gone"'
+            assert second == "event=cut-off client=me why='it does not read its replies'"
             lines = watch.text({}).decode().splitlines()
             assert 'registryd_restarts_total{program="reader"} 1' in lines
             assert "registryd_clients_cut_off_total 1" in lines

@@ -21,8 +21,7 @@ def has_replies(client):
 
 class Slow(Case):
     def assert_meanwhile(self, were_before, begun, seconds):
-        """All of these answers came before that of a search which lasts so long; or one at least, where a busy
-        machine took longer for them."""
+        """All these answers came before that of so long a search; or one at least, where a busy machine took longer."""
         assert all(were_before) or any(were_before) and time.monotonic() - begun > seconds, were_before
 
     def begin_full(self, *words, **more):
@@ -117,14 +116,11 @@ class Slow(Case):
         with service.client() as client:
             client.send(HARD)
             for count in range(2):
-                self.kill_reader(service, count)
+                again = f'restarts_total{{program="reader"}} {count}\n'
+                wait_for(lambda: again in service.get("/metrics")[1] or not count)
+                wait_for(lambda: "registryd_readers 1\n" in service.get("/metrics")[1])
+                reader, = service.programs()[1]
+                assert not is_idle(reader)  # it searches
+                kill([reader])
             assert client.line() == b'{"error":503,"name":"Unavailable","revision":%d}' % len(LINES)
             assert "selected" in client.ask(resolve("hole-1 *"))[0]
-
-    def kill_reader(self, service, count):
-        """Ends the reader once it searches."""
-        wait_for(lambda: f'restarts_total{{program="reader"}} {count}\n' in service.get("/metrics")[1] or not count)
-        wait_for(lambda: "registryd_readers 1\n" in service.get("/metrics")[1])
-        reader, = service.programs()[1]
-        assert not is_idle(reader)
-        kill([reader])

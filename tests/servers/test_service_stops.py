@@ -1,5 +1,4 @@
-"""A service ends in order by a signal, and where anything is killed at any moment, nothing that was told as accepted is
-lost."""
+"""A service ends in order by a signal, and where anything is killed, nothing is lost that was told as accepted."""
 import itertools
 import json
 import os
@@ -43,8 +42,7 @@ class Load:
             self.faults.append(fault)
 
     def talk(self, client, number, rng, versions):
-        """Publishes over a connection; answers whether another one is to be made, since this one takes no more
-        commands."""
+        """Publishes over a connection; answers whether another one is to be made, since this takes no more commands."""
         is_known = True
         while is_known and not self.is_over:
             lines = [publish(f"p{number}", f"1.{next(versions)}.0", [f"p{rng.randrange(4)} *"] if number > 3 else [])
@@ -58,8 +56,7 @@ class Load:
         return True
 
     def note(self, line, reply):
-        """What was told of a publication; where a program ended meanwhile, nothing is known of it. Answers
-        whether it is known."""
+        """Notes what was told of a publication; answers whether it is known: not where a program ended meanwhile."""
         with self.lock:
             if reply.get("error") == 503:
                 self.unknown += 1
@@ -152,8 +149,7 @@ class Syncs(Case):
         cls.slow_sync = built(cls, "slow_sync.c")
 
     def test_a_sync_that_goes_on_is_waited_for(self):
-        """On a disk on which each takes a second: what was sent before the signal is told, and stands in the
-        journal."""
+        """On a disk where each takes a second: what was sent before the signal is told, and stands in the journal."""
         for number in (signal.SIGTERM, signal.SIGINT):
             with mock.patch.dict(os.environ, LD_PRELOAD=self.slow_sync):
                 service = self.begin(changes=PATIENT)
@@ -230,8 +226,7 @@ class Kills(Case):
         assert count == len(commands)
 
     def test_a_journal_that_is_moved_is_not_gone_on_with(self):
-        """No command is accepted that is not in the file of the journal's name; once the file has it again, the
-        service goes on."""
+        """No command is accepted that the file of the journal's name lacks; once it has it, the service goes on."""
         service, accepted = self.begin(), 0
         errors, there = Path(f"/proc/self/fd/{service.errors.fileno()}"), Path(self.folder, "there")
         for change in (lambda: service.journal.rename(there), lambda: (os.link(service.journal, there),

@@ -78,7 +78,7 @@ class Watching(Case):
 
     def test_health_and_what_else_is_asked_over_http(self):
         service = self.begin("--metrics-port", 0)
-        port = self.port_of_metrics(service)
+        [(_, port)] = self.listening(service)
         for address in (service.address(), ("127.0.0.1", port)):
             assert service.get("/health", address=address) == (200, "ok\n")
             assert service.get("/", address=address)[0] == 404
@@ -119,10 +119,6 @@ class Watching(Case):
                 if state == "0A" and rest[5] in numbers:
                     address, port = local.split(":")
                     yield address, int(port, 16)
-
-    def port_of_metrics(self, service):
-        [(_, port)] = self.listening(service)
-        return port
 
     def test_ports_are_of_this_machine_alone(self):
         service = self.begin("--port", 0, "--metrics-port", 0)
