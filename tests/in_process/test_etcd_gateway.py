@@ -118,8 +118,8 @@ def test_which_connections_are_made(monkeypatch):
     assert secure.mock_calls == [mock.call("two", 2, context="context"), mock.call("two", 2, context="default")]
     assert issubclass(Secure, gateway.http.client.HTTPSConnection)
     other = Gateway(MEMBERS, "context", 1.0, 7.0).another()
-    assert (other.members, other.context, other.timeout, other.patience, other.turn) == (MEMBERS, "context", 1.0, 7.0,
-            0)
+    found = other.members, other.context, other.timeout, other.patience, other.turn
+    assert found == (MEMBERS, "context", 1.0, 7.0, 0)
 
 
 @pytest.mark.parametrize("said, kind", [

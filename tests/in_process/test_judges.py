@@ -146,5 +146,5 @@ class English(unittest.TestCase):
                 else:
                     pytest.raises(Unread, reader.read, [(None, it) for it in told])
         reader = Reader(made, ASKED, before=[("a", "1.0.0"), ("c", "2.0.0")])
-        assert reader.fact("the selection has both a 1.0.0 and c 2.0.0") == [{"a": frozenset({1, -1})},
-                {"c": frozenset({0, -1})}]
+        found = reader.fact("the selection has both a 1.0.0 and c 2.0.0")
+        assert found == [{"a": frozenset({1, -1})}, {"c": frozenset({0, -1})}]

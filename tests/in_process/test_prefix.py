@@ -73,8 +73,8 @@ class Installing(Case):
         install(self.prefix, PIECES)
         # its folders are listed so long as they may be there
         assert listed(self.prefix) == sorted([*LISTED, "old/", "old/a/"])
-        assert {it for it in below(self.prefix) if not it.endswith("/")} == {it
-                for it in LISTED if not it.endswith("/")}
+        there, wanted = ({it for it in paths if not it.endswith("/")} for paths in (below(self.prefix), LISTED))
+        assert there == wanted
         assert below(self.prefix)["bin/run"] == (b"run", "0o755")
         assert (remove(self.prefix), self.prefix.exists()) == ([], False)
 

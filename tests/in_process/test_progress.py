@@ -22,8 +22,8 @@ class Lines(unittest.TestCase):
                 Path(path).write_text(text, encoding="ascii")
             # as measured, else a second for each thousand bytes of its text
             assert (seconds_of("low"), seconds_of("high"), seconds_of("next")) == (12.5, 3.0, 0)
-            assert (crates_below(), crates_below("high"), crates_below("next")) == (["low", "high", "next"],
-                    ["low", "high"], ["next"])
+            below = crates_below(), crates_below("high"), crates_below("next")
+            assert below == (["low", "high", "next"], ["low", "high"], ["next"])
 
     def test_how_many_checks_run_at_once(self):
         for free, processors, wanted in ((20_000_000, 4, 4), (11_999_999, 4, 2), (100, 4, 1), (90_000_000, 2, 2)):

@@ -32,7 +32,7 @@ def test_the_proof_of_a_crate_begins_when_the_gate_tells_of_one_before_it(tmp_pa
 
 
 def test_counts_of_parts_are_added():
-    whole = Counts(2, 0, (("a", "no etcd"),)) + Counts(3, 1, told=("this",)) + Counts(0, 0, (("b", "no cargo"),),
-            ("more",))
+    whole = Counts(2, 0, (("a", "no etcd"),)) + Counts(3, 1, told=("this",))
+    whole += Counts(0, 0, (("b", "no cargo"),), ("more",))
     assert whole.lines() == ["skipped: a: no etcd", "skipped: b: no cargo", "this",
                              "more", "5 passed, 1 failed, 2 skipped"]

@@ -214,7 +214,10 @@ class Rules(unittest.TestCase):
 
     def test_random_requirements(self):
         rng = random.Random(7)
-        version = lambda: ".".join(str(rng.randrange(3)) for _ in range(3)) + rng.choice(["", "", "-a", "-b.1", "-1"])
+
+        def version():
+            return ".".join(str(rng.randrange(3)) for _ in range(3)) + rng.choice(["", "", "-a", "-b.1", "-1"])
+
         for _ in range(20000):
             requirement = ", ".join(rng.choice(["^", "", "~", "=", ">", ">=", "<", "<="]) + version()
                                     for _ in range(rng.choice([1, 1, 2])))
@@ -278,11 +281,11 @@ class Random(Judged):
 
     def test_damaged(self):
         counts = dict.fromkeys(KINDS, 0)
-        fresh = lambda value: json.loads(json.dumps(value))
         for told, commands, known, request, refuter, rng in self.refusals(range(20000, 21000)):
             refusals = []
             for kind in KINDS:
-                damage = Damage(known, fresh(request), fresh(refuter.rows), known.said(refuter.rows, request), rng)
+                damage = Damage(known, copy.deepcopy(request), copy.deepcopy(refuter.rows),
+                                known.said(refuter.rows, request), rng)
                 if getattr(damage, kind)():
                     refusals.append((damage.request, damage.rows, f"{told}, {kind}"))
                     counts[kind] += 1

@@ -5,6 +5,7 @@ import json
 import threading
 import time
 from concurrent.futures import ThreadPoolExecutor
+from functools import partial
 from pathlib import Path
 
 import pytest
@@ -109,8 +110,8 @@ class Seats(client_python.Case):
         text = journal([publish("a", "1.0.0"), publish("b", "1.0.0", ["a ^1"])])
         begun = text[:text.index(b"end")]
         self.assertEqual((self.read(path), one.journal()), (begun, text))
-        others = lambda: Registry(embedded=True, library=LIBRARY, journal=path), lambda: self.open(1, keep=path)
-        for another in others:
+        for another in (partial(Registry, embedded=True, library=LIBRARY, journal=path),
+                        partial(self.open, 1, keep=path)):
             self.ends(f"journal {path}: in use by another session", another)
         one.close()
         self.assertEqual(self.read(path), begun)

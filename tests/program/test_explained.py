@@ -6,6 +6,7 @@ agrees with them; and their lines are few, and stand in the order in which a per
 import json
 import random
 import unittest
+from copy import deepcopy
 
 from registry_cli import check_derivation
 from tests.program.test_check_derivation import WORKED, asked, said_of, tangle
@@ -168,9 +169,8 @@ class Explained(unittest.TestCase):
 
     def damages(self, known, request, rows, rng):
         """Derivations of a refusal that are damaged, one of each kind that there can be."""
-        fresh = lambda value: json.loads(json.dumps(value))
         for kind in KINDS:
-            damage = Damage(known, fresh(request), fresh(rows), known.said(rows, request), rng)
+            damage = Damage(known, deepcopy(request), deepcopy(rows), known.said(rows, request), rng)
             if getattr(damage, kind)():
                 yield kind, damage
 

@@ -123,7 +123,7 @@ class WithService(Called):
         service = self.begin("--seconds", 1)
         replies = self.tried("lines", service.socket, [*LINES, HARD, resolve("hole-1 =0.0.0")]).splitlines()
         assert replies[len(LINES):] == ['{"error":22,"name":"BudgetSpent","revision":%d}' % len(LINES),
-                                               '{"revision":%d,"selected":[["hole-1","0.0.0"]]}' % len(LINES)]
+                                        '{"revision":%d,"selected":[["hole-1","0.0.0"]]}' % len(LINES)]
 
     def test_a_client_too_many(self):
         service = self.begin("--clients", 1)

@@ -130,8 +130,8 @@ class Command(Served):
         for words, ends, status in (([], signal.SIGINT, 130), (["--json"], signal.SIGTERM, 143)):
             with in_time(), self.begun(*words) as running:
                 line = running.stdout.readline()
-                port = json.loads(line)["port"] if words else int(re.fullmatch(r"http://127\.0\.0\.1:(\d+)/\n",
-                        line)[1])
+                told = [json.loads(line)["port"]] if words else re.findall(r"^http://127\.0\.0\.1:(\d+)/\n$", line)
+                port = int(told[0])
                 self.server = mock.Mock(port=port)
                 assert self.told("status")["revision"] == 9
                 taken = self.registry("page", "--port", port)

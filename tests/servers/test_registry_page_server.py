@@ -68,9 +68,9 @@ class Requests(Worked):
                            ("/", {"method": "POST"}), ("/", {"host": ["evil.example"]})):
             _, headers, _ = self.ask(path, **more)
             policy = dict(part.strip().split(" ", 1) for part in headers["Content-Security-Policy"].split(";"))
-            assert (policy["default-src"], policy["script-src"], policy["style-src"]) == ("'none'", "'self'",
-                    "'self'"), path
-            assert (policy["img-src"], policy["connect-src"]) == ("'self'", "'self'")
+            assert policy["default-src"] == "'none'", path
+            for kind in ("script-src", "style-src", "img-src", "connect-src"):
+                assert policy[kind] == "'self'", path
             assert (policy["frame-ancestors"], policy["base-uri"], policy["form-action"]) == ("'none'",) * 3
             assert (policy["require-trusted-types-for"], policy["trusted-types"]) == ("'script'", "'none'")
             assert not {"Access-Control-Allow-Origin", "Set-Cookie"} & set(headers)

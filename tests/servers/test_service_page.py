@@ -115,8 +115,8 @@ class Unit(unittest.TestCase):
 
     def test_what_it_may_do(self):
         said = self.unit["Service"]
-        assert (said["Type"], said["KillMode"], said["User"], said["Restart"]) == ("notify", "mixed",
-                "registryd", "on-failure")
+        found = said["Type"], said["KillMode"], said["User"], said["Restart"]
+        assert found == ("notify", "mixed", "registryd", "on-failure")
         for name in ("NoNewPrivileges", "ProtectHome", "PrivateTmp", "PrivateDevices",
                      "RestrictSUIDSGID", "MemoryDenyWriteExecute"):
             assert said[name] == "yes"

@@ -79,7 +79,7 @@ def a_selection_longer_than_the_room_of_replies():
     needs = [[[f"a{number + 1}", f">={number + 1}.0.0-0"]] if number < 269 else [] for number in range(270)]
     yield from accepted(
         [compact({"op": "publish", "name": name, "version": long_version(number), "needs": needs[number]})
-                         for number, name in enumerate(names)])
+         for number, name in enumerate(names)])
     rows = sorted([name, long_version(number)] for number, name in enumerate(names))
     reply = compact({"revision": 270, "selected": rows}).decode()
     assert len(reply) > 65_536

@@ -97,11 +97,13 @@ class Maker:
              "target": self.rng.choice(NAMES),
              "versions": self.ordinals(), "within": self.ordinals()}])
 
+    def term(self):
+        return [self.rng.choice(["", *NAMES]), self.rng.random() < 0.5, self.ordinals()]
+
     def derivation(self):
         """Lines of the form of a derivation, few of which follow."""
-        term = lambda: [self.rng.choice(["", *NAMES]), self.rng.random() < 0.5, self.ordinals()]
         return [{"causes": [self.cause(), self.cause()],
-                 "conclusion": [term() for _ in range(self.rng.choice([0, 1, 2]))],
+                 "conclusion": [self.term() for _ in range(self.rng.choice([0, 1, 2]))],
                  "pivot": self.rng.choice(["", *NAMES])} for _ in range(self.rng.choice([0, 1, 1, 2, 3]))]
 
     def repeated(self, rows):

@@ -11,7 +11,7 @@ ROWS = [(None, ASKED), ("", ASKED),
         *((it, f"{ASKED}:{it}")
           for it in ("glibc.malloc.arena_max=2", "glibc.malloc.arena_max=2:glibc.malloc.perturb=3",
                      "glibc.malloc.hugetlb",
-                                           "my.glibc.malloc.hugetlb=0", "a=b  *:c=$d'\"\\:"))]
+                     "my.glibc.malloc.hugetlb=0", "a=b  *:c=$d'\"\\:"))]
 # What a program of sh tells of it.
 TELL = f"printf '%s\\n' \"${{{NAME}-none}}\"\n"
 
