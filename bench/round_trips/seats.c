@@ -1,7 +1,7 @@
 /* seats WAY THREADS SECONDS PUBLISH RESOLVE: publishes the lines of one file and then resolves those of another for so many seconds, by
  * seats of one journal, one a thread, or by a session behind a lock, which all threads share. Prints the nanoseconds of a publication
  * where all threads publish their share at once, then those of a resolve as a thread sees it, how many were made in all, how many bytes a
- * seat or the session takes once it has seen all, and the last reply. */
+ * seat or the session takes once it has seen all, and the reply to the first request. */
 #define _GNU_SOURCE
 #include "registryd.h"
 
@@ -31,7 +31,8 @@ static double until;
 static pthread_mutex_t lock = PTHREAD_MUTEX_INITIALIZER;
 static pthread_barrier_t gate;
 static atomic_ulong resolved;
-static char last[1 << 16];
+
+#define ROOM (1 << 16)
 
 static void must(int holds, const char *what)
 {
@@ -76,7 +77,7 @@ static size_t ask(size_t thread, const struct line *line, char *reply)
     size_t taken, left;
     if (is_shared)
         pthread_mutex_lock(&lock);
-    int answer = registryd_ask(sessions[is_shared ? 0 : thread], line->at, line->length, reply, sizeof last, &taken, &left);
+    int answer = registryd_ask(sessions[is_shared ? 0 : thread], line->at, line->length, reply, ROOM, &taken, &left);
     if (is_shared)
         pthread_mutex_unlock(&lock);
     must(answer == REGISTRYD_OK && left == 0, registryd_strerror(answer));
@@ -86,7 +87,7 @@ static size_t ask(size_t thread, const struct line *line, char *reply)
 static void *publish(void *given)
 {
     size_t thread = (size_t)given;
-    char *reply = malloc(sizeof last);
+    char *reply = malloc(ROOM);
     must(reply != NULL, "no memory");
     pthread_barrier_wait(&gate);
     for (size_t at = thread; at < published.count; at += threads) {
@@ -99,16 +100,14 @@ static void *publish(void *given)
 
 static void *resolve(void *given)
 {
-    size_t thread = (size_t)given, count = 0, length = 0;
-    char *reply = malloc(sizeof last);
+    size_t thread = (size_t)given, count = 0;
+    char *reply = malloc(ROOM);
     must(reply != NULL, "no memory");
     pthread_barrier_wait(&gate);
     do
-        length = ask(thread, &asked.at[(thread + count++) % asked.count], reply);
+        ask(thread, &asked.at[(thread + count++) % asked.count], reply);
     while (now() < until);
     atomic_fetch_add(&resolved, count);
-    if (thread == 0)
-        memcpy(last, reply, length);
     free(reply);
     return NULL;
 }
@@ -127,7 +126,7 @@ static double run(void *(*work)(void *))
 int main(int count, char **words)
 {
     must(count == 6, "seats WAY THREADS SECONDS PUBLISH RESOLVE");
-    char why[512], *reply = malloc(sizeof last);
+    char why[512], *reply = malloc(ROOM);
     is_shared = strcmp(words[1], "session") == 0;
     threads = strtoul(words[2], NULL, 10);
     must(reply && threads > 0 && threads <= REGISTRYD_SEATS, "1 to 64 threads");
@@ -145,6 +144,8 @@ int main(int count, char **words)
     double seconds = strtod(words[3], NULL);
     until = now() + seconds;
     run(resolve);
-    printf("%.0f %.0f %lu %.0f\n%s", publishing * 1e9, seconds * 1e9 * (double)threads / (double)resolved, resolved, memory, last);
+    size_t length = ask(0, &asked.at[0], reply);
+    printf("%.0f %.0f %lu %.0f\n%.*s", publishing * 1e9, seconds * 1e9 * (double)threads / (double)resolved, resolved, memory,
+           (int)length, reply);
     return 0;
 }
