@@ -1,6 +1,6 @@
 /* seats WAY THREADS SECONDS PUBLISH RESOLVE: publishes the lines of one file and then resolves those of another for so many seconds, by
- * seats of one journal, one a thread, or by a session behind a lock, which all threads share. Prints the nanoseconds of a publication
- * where all threads publish their share at once, then those of a resolve as a thread sees it, how many were made in all, how many bytes a
+ * seats of one journal, one a thread, or by a session behind a lock, which all threads share. Prints the nanoseconds until all is
+ * published, by each publication, where all threads publish their share at once; then those of a resolve as a thread sees it, how many were made in all, how many bytes a
  * seat or the session takes once it has seen all, and the reply to the first request. */
 #define _GNU_SOURCE
 #include "registryd.h"
@@ -137,7 +137,7 @@ int main(int count, char **words)
     int answer = is_shared ? registryd_open_embedded(NULL, NULL, sessions, why, sizeof why)
                            : registryd_open_seats(NULL, REGISTRYD_ENTRIES, sessions, threads, why, sizeof why);
     must(answer == REGISTRYD_OK, why);
-    double publishing = run(publish) * (double)threads / (double)published.count;
+    double publishing = run(publish) / (double)published.count;
     for (size_t thread = 0; thread < threads; thread++)
         ask(thread, &asked.at[0], reply);
     double memory = (used() - before) / (is_shared ? 1 : (double)threads);
