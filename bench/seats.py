@@ -5,8 +5,9 @@
 A registry of some 1,500 publications, and one of some 20,000, are published and then asked: by a session and by one
 seat, each in one thread, and by a session and by seats in four. Prints for each, of the best of all rounds, the
 microseconds until all is published, by each publication, where all threads publish at once, how many requests a second
-all threads have answered, and the megabytes of the session or of a seat with what all seats share; beside them the
-ratios to the session in one thread. The ways take turns, round by round. It takes a C compiler, and four idle processors.
+all threads have answered, and the megabytes of the session, or of a seat with its part of what all seats share; beside
+them the ratios to the session in one thread. The ways take turns, round by round. It takes a C compiler, and four idle
+processors.
 """
 from __future__ import annotations
 

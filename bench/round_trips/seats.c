@@ -1,7 +1,7 @@
 /* seats WAY THREADS SECONDS PUBLISH RESOLVE: publishes the lines of one file and then resolves those of another for so many seconds, by
  * seats of one journal, one a thread, or by a session behind a lock, which all threads share. Prints the nanoseconds until all is
- * published, by each publication, where all threads publish their share at once; then those of a resolve as a thread sees it, how many were made in all, how many bytes a
- * seat or the session takes once it has seen all, and the reply to the first request. */
+ * published, by each publication, where all threads publish their share at once; then those of a resolve as a thread sees it, how many
+ * were made in all, how many bytes a seat or the session takes once it has seen all, and the reply to the first request. */
 #define _GNU_SOURCE
 #include "registryd.h"
 
