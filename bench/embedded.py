@@ -63,15 +63,15 @@ class Row:
         return times[min(len(times) - 1, int(len(times) * share))] / 1000
 
 
-def compiled(folder, library, optimized):
+def compiled(folder: Path, library: str | Path, optimized: bool) -> dict[str, list[str | Path]]:
     """The commands of the languages that can be compiled here; who tests them need not wait for a compiler that
     optimizes."""
-    commands = {"C": [folder / "c"], "Python": [sys.executable, HERE / "round_trips.py"]}
+    commands: dict[str, list[str | Path]] = {"C": [folder / "c"], "Python": [sys.executable, HERE / "round_trips.py"]}
     level = {"cc": ["-O2"], "rustc": ["-O"]} if optimized else {"cc": [], "rustc": []}
     subprocess.run(["cc", *level["cc"], "-I", TOP / "clients" / "c", HERE / "round_trips.c", "-L", library,
                     "-l:libregistryd.a", "-lpthread", "-o", folder / "c"], check=True)
     if shutil.which("rustc"):
-        rustc = ["rustc", "--edition", "2021", *level["rustc"], "--out-dir", folder, "-L", f"native={library}"]
+        rustc = ["rustc", "--edition", "2021", *level["rustc"], "--out-dir", str(folder), "-L", f"native={library}"]
         subprocess.run([*rustc, "--crate-type", "rlib", "--crate-name", "registryd", "--cfg", 'feature="embedded"',
                         "-l", "static=registryd", TOP / "clients" / "rust" / "src" / "lib.rs"], check=True)
         client = f"registryd={folder / 'libregistryd.rlib'}"
@@ -81,20 +81,20 @@ def compiled(folder, library, optimized):
 
 
 @contextlib.contextmanager
-def listening(program, path):
+def listening(program: str, path: Path) -> Iterator[Path]:
     """A socket at a path; each connection to it is one session of the program."""
     with socket.socket(socket.AF_UNIX) as server:
         server.bind(str(path))
         server.listen()
         running = []
 
-        def serve():
+        def serve() -> None:
             with contextlib.suppress(OSError):  # when the socket is shut down
                 while True:
                     channel, _ = server.accept()
                     with channel:
                         words = [program, "serve", "--workers", "1"]
-                        running.append(subprocess.Popen(words, stdin=channel, stdout=channel))
+                        running.append(subprocess.Popen(words, stdin=channel.fileno(), stdout=channel.fileno()))
 
         thread = threading.Thread(target=serve, daemon=True)
         thread.start()
@@ -134,7 +134,7 @@ def table(rows: Iterable[Row]) -> Iterator[str]:
         yield f"| {row.language}, {WAYS[row.way]} | {' | '.join(cells)} |"
 
 
-def main():
+def main() -> None:
     options = parser(__doc__, trips=20_000, rounds=5)
     options.add_argument("--library", help="the folder of libregistryd; else the one that is built of these sources")
     chosen = options.parse_args()

@@ -32,7 +32,7 @@ def race(program: str, paths: list[str]) -> tuple[float, bytes]:
         return spent, printed.read()
 
 
-def main():
+def main() -> None:
     chosen = parser(__doc__, files=8, lines=6000, rounds=5).parse_args()
     lines = publish_lines(chosen.files * chosen.lines)
     with tempfile.TemporaryDirectory() as folder:

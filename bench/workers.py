@@ -18,7 +18,8 @@ from bench.workloads import lockfile
 WORKERS = [1, 2, 4, 8, 64]
 
 
-def together(program, workers, lines, requests, rounds):
+def together(program: str, workers: int, lines: list[str], requests: list[str],
+             rounds: int) -> tuple[float, list[bytes]]:
     """The least seconds in which all requests are answered that were sent at once, and the replies."""
     with Session(program, workers) as session:
         session.load(lines)
@@ -47,7 +48,7 @@ def by_workers(program: str, lines: list[str], requests: list[str], rounds: int)
     return rates
 
 
-def main():
+def main() -> None:
     chosen = parser(__doc__, packages=300, requests=256, rounds=10).parse_args()
     lines, requests = lockfile(chosen.packages, count=chosen.requests)
     print(f"{len(requests)} requests, {len(lines)} publications, {os.cpu_count()} processors")

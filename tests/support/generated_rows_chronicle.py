@@ -2,26 +2,30 @@
 
 A table is a title and its rows; a row's member `gives` is the wanted answer. A stamp is a place and a revision."""
 
+from collections.abc import Iterator, Sequence
+from typing import Any
+
 from registry_cli.limits import MOST_CELLS
 from tests.support.generated_rows import row, tables
 
 SEGMENT = 256  # cells that are made together
 
 
-def publish(version, name="a"):
+def publish(version: str, name: str = "a") -> list[Any]:
     return ["publish", {"name": name, "version": version, "needs": []}]
 
 
-def steps_of_two(title, steps, gives, capacity, seats=(1, 2)):
+def steps_of_two(title: str, steps: list[Any], gives: list[Any], capacity: int,
+                 seats: Sequence[int] = (1, 2)) -> tuple[str, list[Any]]:
     """A table of one row of two seats, whose steps are to give this."""
     return title, [row("chronicle", "steps", gives, capacity=capacity, seats=[*seats], steps=steps)]
 
 
 @tables
-def a_row_that_ends_behind_a_segment():
+def a_row_that_ends_behind_a_segment() -> Iterator[tuple[str, list[Any]]]:
     """Each cell of a row of 257 takes an entry, the first cell of its second segment too, and then none does."""
     steps = [[1, *publish(f"1.0.{number}")] for number in range(SEGMENT + 1)]
-    gives = [[place, place] for place in range(1, SEGMENT + 2)]
+    gives: list[Any] = [[place, place] for place in range(1, SEGMENT + 2)]
     steps += [[1, *publish("1.1.0")], [1, *publish("1.0.7")], [1, "place"],
               [1, "resolve", {"needs": [["a", "^1"]], "lock": []}]]
     gives += [{"refused": 10}, {"refused": 7}, SEGMENT + 1, {"at": [SEGMENT + 1] * 2, "selected": [["a", "1.0.256"]]}]
@@ -29,7 +33,7 @@ def a_row_that_ends_behind_a_segment():
 
 
 @tables
-def seats_that_meet_behind_a_segment():
+def seats_that_meet_behind_a_segment() -> Iterator[tuple[str, list[Any]]]:
     """Two seats enter by turns, so that each makes a segment that the other looks at, and a mark carries one over a
     segment that it has not seen."""
     last = 2 * SEGMENT + 2
@@ -42,9 +46,10 @@ def seats_that_meet_behind_a_segment():
 
 
 @tables
-def a_row_of_257_entries():
+def a_row_of_257_entries() -> Iterator[tuple[str, list[Any]]]:
     """The rules of a row: each accepted command stands once, at the place that its seat was told."""
-    steps, answers, journal, serials = [], [], [], {1: 0, 2: 0}
+    answers: list[Any] = []
+    steps, journal, serials = [], [], {1: 0, 2: 0}
     for place in range(1, 258):
         # a seat enters one or two in a row, so that the other one has to look first
         seat = 1 + place * 2 // 3 % 2
@@ -60,7 +65,7 @@ def a_row_of_257_entries():
 
 
 @tables
-def marks_where_a_segment_ends():
+def marks_where_a_segment_ends() -> Iterator[tuple[str, list[Any]]]:
     """A seat that meets a mark has seen just what the mark stands for; cells are made 256 at a time."""
     for many in (255, 256, 257, 511, 512, 513):
         steps = [*([1, *publish("1.0.0", f"p{place}")] for place in range(1, many + 1)), [1, "mark"],
@@ -72,7 +77,7 @@ def marks_where_a_segment_ends():
 
 
 @tables
-def a_row_of_all_its_places():
+def a_row_of_all_its_places() -> Iterator[tuple[str, list[Any]]]:
     """The rules of a row: a seat's command stands after all that either seat entered, up to the last of its places.
     Of one version each yank and each undoing of it is accepted in turn, so an entry that was missed would be told."""
     version, first = {"name": "a", "version": "1.0.0"}, publish("1.0.0")

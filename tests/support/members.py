@@ -1,4 +1,6 @@
 """Members of etcd on this machine, which may be killed, held up and cut off from each other."""
+from __future__ import annotations
+
 import json
 import os
 import shutil
@@ -9,6 +11,8 @@ import threading
 import time
 import urllib.error
 import urllib.request
+from collections.abc import Callable, Iterator
+from typing import Any
 
 from registry_cli import tied
 from tests.support.fake_etcd import Drop
@@ -19,24 +23,24 @@ MEMORY = "/dev/shm"
 BEGINS = 100  # seconds in which a member answers, on a busy machine too
 
 
-def is_installed():
+def is_installed() -> bool:
     return shutil.which("etcd") is not None
 
 
-def may_divide():
+def may_divide() -> bool:
     """Whether this machine lets us make namespaces of the network."""
     name = f"reg-try-{os.getpid()}"
     done = subprocess.run(["ip", "netns", "add", name], capture_output=True) if shutil.which("ip") else None
-    return bool(done) and done.returncode == 0 and subprocess.run(["ip", "netns", "del", name],
-                                                                  capture_output=True).returncode == 0
+    return done is not None and done.returncode == 0 and subprocess.run(["ip", "netns", "del", name],
+                                                                        capture_output=True).returncode == 0
 
 
-def ip(*words):
+def ip(*words: str) -> None:
     done = subprocess.run(["ip", *words], capture_output=True, text=True)
     assert done.returncode == 0, f"ip {' '.join(words)}: {done.stderr.strip()}"
 
 
-def own_bridge():
+def own_bridge() -> tuple[str, str]:
     """Makes a bridge that no other run has; answers its name and the first three numbers of its addresses."""
     for number in range(1, NETS + 1):
         name = f"reg-etcd-{number}"
@@ -48,10 +52,11 @@ def own_bridge():
 class Members:
     """So many members, on loopback, or each in a namespace of its own behind one bridge."""
 
-    def __init__(self, count, divided=False, folder=MEMORY):
+    def __init__(self, count: int, divided: bool = False, folder: str = MEMORY) -> None:
         # in memory where that may be: what is tested loses processes, not the machine, and others may use the disk
         self.folder = tempfile.mkdtemp(prefix="etcd-members-", dir=folder if os.path.isdir(folder) else None)
-        self.divided, self.children = divided, [None] * count
+        self.divided = divided
+        self.children: list[Any] = [None] * count
         # none begins again once they are ended, whoever still disturbs them
         self.beginning, self.are_ended = threading.Lock(), False
         self.hosts = ["127.0.0.1"] * count
@@ -64,7 +69,7 @@ class Members:
             self.start(number)
         self.wait()
 
-    def divide(self):
+    def divide(self) -> None:
         self.bridge, net = own_bridge()
         self.hosts = [f"{net}.{number + 1}" for number in range(len(self.hosts))]
         ip("addr", "add", f"{net}.254/24", "dev", self.bridge)
@@ -78,11 +83,11 @@ class Members:
             ip("-n", name, "link", "set", "eth0", "up")
             ip("-n", name, "link", "set", "lo", "up")
 
-    def namespace(self, number):
+    def namespace(self, number: int) -> str:
         """What a member's namespace is called, and the bridge's end of its link."""
         return f"{self.bridge}-{number}"
 
-    def start(self, number):
+    def start(self, number: int) -> None:
         name, client, peer = f"m{number}", self.clients[number], self.peers[number]
         words = ["etcd", "--name", name, "--data-dir", os.path.join(self.folder, name), "--listen-client-urls", client,
                  "--advertise-client-urls", client, "--listen-peer-urls", peer, "--initial-advertise-peer-urls", peer,
@@ -94,13 +99,13 @@ class Members:
                 self.children[number] = tied.Tied([*within, *words], stdout=subprocess.DEVNULL,
                                                   stderr=subprocess.DEVNULL)
 
-    def wait(self):
+    def wait(self) -> None:
         """Returns when each member answers."""
         for url in self.clients:
             self.until_healthy(url)
 
     @staticmethod
-    def until_healthy(url):
+    def until_healthy(url: str) -> None:
         until = time.monotonic() + BEGINS
         while time.monotonic() < until:
             try:
@@ -112,17 +117,17 @@ class Members:
             time.sleep(0.05)
         raise AssertionError(f"no member at {url}")
 
-    def behind(self):
+    def behind(self) -> list[Member]:
         """What gates pass calls on to."""
         return [Member(url) for url in self.clients]
 
-    def troubles(self):
+    def troubles(self) -> list[tuple[Callable[[int, float], None], str]]:
         """What can be done to a member, and how it is called."""
         dividing = [(self.cut_off, "member cut off"),
                     (self.part, "member parted from the others")] if self.divided else []
         return [(self.kill, "member killed"), (self.pause, "member held up"), *dividing]
 
-    def kill(self, number, seconds):
+    def kill(self, number: int, seconds: float) -> None:
         """Kills a member, and begins it again after a while."""
         self.children[number].kill()
         self.children[number].wait()
@@ -130,17 +135,17 @@ class Members:
         self.start(number)
         self.until_healthy(self.clients[number])
 
-    def pause(self, number, seconds):
+    def pause(self, number: int, seconds: float) -> None:
         pause(self.children[number], seconds)
 
-    def cut_off(self, number, seconds):
+    def cut_off(self, number: int, seconds: float) -> None:
         """For a while a member hears nothing from anyone, and nobody from it."""
         ip("link", "set", self.namespace(number), "down")
         time.sleep(seconds)
         ip("link", "set", self.namespace(number), "up")
         self.until_healthy(self.clients[number])
 
-    def part(self, number, seconds):
+    def part(self, number: int, seconds: float) -> None:
         """For a while a member and the others do not hear each other; whoever asks it reaches it."""
         for change in ("add", "del"):
             for other, host in enumerate(self.hosts):
@@ -150,10 +155,10 @@ class Members:
                 time.sleep(seconds)
         self.until_healthy(self.clients[number])
 
-    def close(self):
+    def close(self) -> None:
         with self.beginning:
             self.are_ended = True
-        for child in filter(None, self.children):
+        for child in (it for it in self.children if it):
             child.kill()
             child.wait()
         if self.divided:
@@ -164,7 +169,7 @@ class Members:
         shutil.rmtree(self.folder)
 
 
-def pause(child, seconds):
+def pause(child: tied.Tied, seconds: float) -> None:
     """Holds a process up for a while."""
     child.send_signal(signal.SIGSTOP)
     time.sleep(seconds)
@@ -174,14 +179,14 @@ def pause(child, seconds):
 class Member:
     """A member behind a gate: what a gate passes on to it."""
 
-    def __init__(self, url):
+    def __init__(self, url: str) -> None:
         self.url = url
 
-    def ask(self, path, asked, timeout):
+    def ask(self, path: str, asked: Any, timeout: float | None) -> Any:
         data = json.dumps(asked).encode()
         return urllib.request.urlopen(urllib.request.Request(self.url + path, data), timeout=timeout)
 
-    def answer(self, path, asked):
+    def answer(self, path: str, asked: Any) -> tuple[int, Any]:
         try:
             with self.ask(path, asked, 5) as told:
                 return 200, json.loads(told.read())
@@ -190,7 +195,7 @@ class Member:
         except (OSError, ValueError) as lost:
             raise Drop from lost
 
-    def watch(self, asked):
+    def watch(self, asked: Any) -> Iterator[Any]:
         try:
             with self.ask("/v3/watch", {"create_request": asked}, None) as told:
                 for line in told:

@@ -5,8 +5,9 @@ import shutil
 import subprocess
 import tempfile
 import unittest
+from collections.abc import Iterator, Sequence
 from pathlib import Path
-from typing import NamedTuple
+from typing import Any, NamedTuple
 
 from tests.support.program import TOP, run
 
@@ -16,12 +17,12 @@ WATCH_CALLS = "watch_calls.c"
 NO_SYNC = "no_sync.c"
 
 
-def in_memory():
+def in_memory() -> tempfile.TemporaryDirectory[str]:
     """A folder for short-lived files, where they cost least, on machines that have such a place."""
     return tempfile.TemporaryDirectory(dir="/dev/shm" if os.path.isdir("/dev/shm") else None)
 
 
-def built(case, source):
+def built(case: type[unittest.TestCase], source: str) -> str:
     """The path of such a library, which is built of a source below `tools` and lasts as long as a class of tests."""
     if not shutil.which("cc"):
         raise unittest.SkipTest("there is no cc (Debian: gcc)")
@@ -40,21 +41,22 @@ class Refused(NamedTuple):
     came: bool
     folder: str
 
-    def left(self, name):
+    def left(self, name: str) -> bytes | None:
         """What stands in a file of its folder; nothing where there is no such file."""
         path = Path(self.folder, name)
         return path.read_bytes() if path.exists() else None
 
     @property
-    def stdout(self):
+    def stdout(self) -> bytes | None:
         return self.left("output")
 
     @property
-    def stderr(self):
+    def stderr(self) -> bytes | None:
         return self.left("errors")
 
 
-def each_refused(library, command, given, numbers, behind=0):
+def each_refused(library: str, command: Sequence[str], given: bytes, numbers: range,
+                 behind: int = 0) -> Iterator[Refused]:
     """Runs a command on these bytes once for each of these numbers, a range; it ends before where so many runs in a row
     did not come to their request. Yields them in order; what they left stands until the last was asked for."""
     with in_memory() as folder:
@@ -74,15 +76,16 @@ class Break:
     """Which calls of a function are broken, and how: the one of a number, and each that comes so many later; by an
     error's name, or, of reads and writes, so that they are of one byte."""
 
-    def __init__(self, call, number, how, every=0):
+    def __init__(self, call: str, number: int, how: str, every: int = 0) -> None:
         self.call, self.number, self.every = call, number, every
         self.error = 0 if how == "short" else getattr(errno, how)
 
-    def env(self, library):
+    def env(self, library: str) -> dict[str, str]:
         return {**os.environ, "LD_PRELOAD": library, "BREAK_CALL": self.call, "BREAK_NUMBER": str(self.number),
                 "BREAK_EVERY": str(self.every), "BREAK_ERROR": str(self.error)}
 
-    def run(self, library, words, given=b"", **more):
+    def run(self, library: str, words: Sequence[str], given: bytes = b"",
+            **more: Any) -> tuple[subprocess.CompletedProcess[bytes], bool]:
         """What the program left, and whether it came to the call."""
         told, tell = os.pipe()
         try:

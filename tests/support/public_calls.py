@@ -1,10 +1,11 @@
 """The public calls of the crates, as their sources declare them: which take memory, and what their contracts say."""
 import re
 from collections import defaultdict
+from collections.abc import Iterator
 from pathlib import Path
 
 from tests.support.program import TOP, data_rows, read
-from tests.support.source_calls import blocks, functions_of
+from tests.support.source_calls import Function, blocks, functions_of
 
 CRATES = Path(TOP, "crates")
 # These answer a refusal and take no memory.
@@ -20,24 +21,24 @@ NO_PART = {"rows", "engine", "propagation", "intake", "answers", "session", "rac
 TAKES_MEMORY = re.compile(r"-> (?:io::)?Result<")
 
 
-def libraries():
+def libraries() -> list[str]:
     """The crates of which others use what they export."""
     return sorted(path.parts[-3] for path in CRATES.glob("*/src/lib.rt"))
 
 
-def exported(crate):
+def exported(crate: str) -> set[str]:
     """The names that a library lets others use."""
     uses = re.findall("^pub use ([^;]*);", read("crates", crate, "src", "lib.rt"), re.M)
     return {name for words in uses for name in re.findall(r"\w+", words)}
 
 
-def texts_of(crate):
+def texts_of(crate: str) -> Iterator[tuple[str, str]]:
     """The sources of a crate, each with its path."""
     for path in sorted(CRATES.joinpath(crate, "src").rglob("*.rt")):
         yield str(path.relative_to(CRATES)), path.read_text(encoding="utf-8")
 
 
-def public(crate):
+def public(crate: str) -> Iterator[tuple[Function, str]]:
     """Each public function of a crate and each `clone`, with the text from its name on."""
     for path, text in texts_of(crate):
         for function, body in functions_of(path, text):
@@ -45,9 +46,9 @@ def public(crate):
                 yield function, body
 
 
-def that_take_memory():
+def that_take_memory() -> set[str]:
     """The full names of the public functions whose result tells of lack of memory."""
-    found = set()
+    found: set[str] = set()
     for crate in set(libraries()) - NO_PART:
         names = exported(crate)
         found |= {it.full_name for it, body in public(crate) if (it.owner or it.name) in names
@@ -55,10 +56,10 @@ def that_take_memory():
     return found - TAKES_NONE - OF_RACES - OF_CALLERS
 
 
-def clauses():
+def clauses() -> defaultdict[str, set[str]]:
     """The clauses of each call of the crates, by its full name. What has no name is `ensures`; a `clone` promises what
     its type's `is_clone` says."""
-    found = defaultdict(set)
+    found: defaultdict[str, set[str]] = defaultdict(set)
     for crate in sorted(path.name for path in CRATES.iterdir()):
         for function, body in public(crate):
             found[function.full_name] |= {it or "ensures" for it in re.findall(r"^ *ensures (\w+)? ?\{", body, re.M)}
@@ -69,6 +70,6 @@ def clauses():
     return found
 
 
-def said_by_clauses():
+def said_by_clauses() -> list[tuple[str, list[str]]]:
     """The full names of the calls whose contract says all of what they do, each with the clauses that say it."""
     return [(name, clauses) for name, *clauses in map(str.split, data_rows("said_by_clauses.txt"))]

@@ -4,12 +4,14 @@ import os
 import socket
 import tempfile
 import threading
+from collections.abc import Collection, Iterable, Iterator
 
 from registryd import List, Publish, Unyank, Yank
 
 GREETING = '{"op":"resolve","needs":[]}'
 FENCE = "{}"
-ASKED = {it.line(): it for it in (Publish("log", "1.0.0"), Yank("log", "1.0.0"), Unyank("log", "1.0.0"), List())}
+REQUESTS: list[Publish | Yank | List] = [Publish("log", "1.0.0"), Yank("log", "1.0.0"), Unyank("log", "1.0.0"), List()]
+ASKED = {it.line(): it for it in REQUESTS}
 PUBLISH, YANK, UNYANK, LIST = ASKED
 PUBLISHED, YANKED, UNYANKED = ('{"name":"log","needs":[],"op":"publish","version":"1.0.0"}',
                                '{"name":"log","op":"yank","version":"1.0.0"}',
@@ -21,7 +23,7 @@ PUBLISHED_BEFORE = '{"error":7,"name":"AlreadyPublished","revision":1}\n'
 LISTED = '{"packages":[["log",[["1.0.0",true]]]],"revision":4}\n'
 
 
-def accepted(*revisions):
+def accepted(*revisions: int) -> str:
     return "".join(f'{{"ok":true,"revision":{it}}}\n' for it in revisions)
 
 
@@ -49,13 +51,13 @@ LOST = [
 
 
 @contextlib.contextmanager
-def answering(path, text):
+def answering(path: str, text: str) -> Iterator[None]:
     """Who connects there is answered by a text, and no more, whatever it asks."""
     with socket.socket(socket.AF_UNIX) as listening:
         listening.bind(path)
         listening.listen()
 
-        def run():
+        def run() -> None:
             connection, _ = listening.accept()
             with connection:
                 connection.recv(100)
@@ -72,24 +74,25 @@ class Scripted:
     the next script; it is closed then, or left open where the text ends by `...`. After the last script nobody listens
     any more. Over HTTP it tells the journal of these commands."""
 
-    def __init__(self, folder, revision, commands, scripts):
+    def __init__(self, folder: str, revision: int, commands: Collection[str],
+                 scripts: Iterable[tuple[int, str]]) -> None:
         self.path, self.revision, self.scripts = os.path.join(tempfile.mkdtemp(dir=folder),
                                                               "socket"), revision, list(scripts)
         self.journal = "".join(f"{line}\n" for line in ["registry-journal 1", *commands, f"end {len(commands)}"])
-        self.asked = []  # the lines of each connection
+        self.asked: list[list[str]] = []  # the lines of each connection
         self.is_over = threading.Event()  # what is left open is closed then
         self.listening = socket.socket(socket.AF_UNIX)
         self.listening.bind(self.path)
         self.listening.listen()
         threading.Thread(target=self.run, daemon=True).start()
 
-    def run(self):
+    def run(self) -> None:
         with self.listening, contextlib.suppress(OSError):  # it is shut
             while True:
                 connection, _ = self.listening.accept()
                 threading.Thread(target=self.answer, args=(connection,), daemon=True).start()
 
-    def answer(self, connection):
+    def answer(self, connection: socket.socket) -> None:
         with connection, connection.makefile("r") as lines, contextlib.suppress(OSError):  # a client may leave
             first = lines.readline().rstrip("\n")
             if first.startswith("GET "):
@@ -107,12 +110,12 @@ class Scripted:
                 if text.endswith("..."):
                     self.is_over.wait()
 
-    def close(self):
+    def close(self) -> None:
         """Listens no more."""
         with contextlib.suppress(OSError):
             os.unlink(self.path)
             self.listening.shutdown(socket.SHUT_RDWR)
 
-    def end(self):
+    def end(self) -> None:
         self.close()
         self.is_over.set()
