@@ -17,6 +17,7 @@ import resource
 import subprocess
 import tempfile
 import time
+from collections.abc import Callable, Iterable
 
 from bench.measuring import Took, best, parser, session, write, write_publications
 from dev.building.progress import TOP
@@ -25,10 +26,11 @@ SYNCS = 200  # that are measured by themselves
 LOOP = 1_000_000  # steps of a loop by which the machine's speed is told
 
 
-def waiting(program, lines, *words):
+def waiting(program: str, lines: Iterable[str], *words: str) -> float:
     """Seconds that a client takes which sends a line and waits for its reply."""
-    words = [program, "serve", "--workers", "1", *words]
+    words = (program, "serve", "--workers", "1", *words)
     with subprocess.Popen(words, stdin=subprocess.PIPE, stdout=subprocess.PIPE, bufsize=0) as running:
+        assert running.stdin and running.stdout
         start = time.perf_counter()
         for line in lines:
             running.stdin.write(line.encode() + b"\n")
@@ -48,7 +50,7 @@ class Bench:
             self.asked = [line.removesuffix("\n") for line in itertools.islice(lines, asked)]
         write(self.none, ())
 
-    def fresh(self):
+    def fresh(self) -> tuple[str, str]:
         """The words of a session whose journal begins."""
         if os.path.exists(self.kept):
             os.unlink(self.kept)
@@ -79,7 +81,7 @@ class Bench:
         subprocess.run(["cc", "-O1", "-shared", "-fPIC", "-o", library, source], check=True)
         return self.counted(library, session, self.given), self.counted(library, waiting, self.asked)
 
-    def counted(self, library, run, given):
+    def counted(self, library: str, run: Callable[..., object], given: str | list[str]) -> int:
         """How often a session of these lines has the disk take what was written."""
         calls, launcher = os.path.join(self.folder, "calls"), os.path.join(self.folder, "launch")
         write(calls, ())
@@ -102,7 +104,7 @@ def sync_of(folder: str, size: int) -> float:
     return sorted(took)[SYNCS // 2]
 
 
-def speed():
+def speed() -> float:
     """Seconds of a processor that a loop takes: what part of its speed the machine has shows beside another run's."""
     start, total = time.process_time(), 0
     for step in range(LOOP):
@@ -110,7 +112,7 @@ def speed():
     return time.process_time() - start
 
 
-def tell(bench, folder, rounds):
+def tell(bench: Bench, folder: str, rounds: int) -> None:
     small, large = sync_of(folder, 100), sync_of(folder, 65_536)
     print(f"a sync of 100 bytes takes {small * 1000:.2f} ms, one of 65,536 bytes {large * 1000:.2f} ms")
     plain, kept, saved = bench.at_hand(rounds)
@@ -137,7 +139,7 @@ def tell(bench, folder, rounds):
     print(f"  peak {loaded.peak / 1024:.1f} MB by --load, {(gone_on.peak - loaded.peak) / 1024:+.1f} MB by --journal")
 
 
-def main():
+def main() -> None:
     options = parser(__doc__, lines=49_152, asked=2_000, rounds=5)
     options.add_argument("--folder", help="where the files are made: on the disk that is to be measured")
     chosen = options.parse_args()

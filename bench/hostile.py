@@ -9,6 +9,10 @@ together. Times are those of a processor, so that what else runs beside changes 
 """
 from __future__ import annotations
 
+import subprocess
+from collections.abc import Sequence
+from typing import Any, cast
+
 from bench.hostile_lines import HOSTILE
 from bench.lines import publish_lines
 from bench.measuring import Session, parser
@@ -16,13 +20,13 @@ from bench.measuring import Session, parser
 USUAL = 20_000  # lines
 
 
-def spent_by(process):
+def spent_by(process: subprocess.Popen[bytes]) -> float:
     """Seconds of a processor that a process of one thread has spent so far."""
     with open(f"/proc/{process.pid}/schedstat", encoding="ascii") as told:
         return int(told.read().split()[0]) / 1e9
 
 
-def asked_of(session, lines):
+def asked_of(session: Session, lines: Sequence[str]) -> tuple[float, list[bytes]]:
     """Seconds of a processor until these lines are answered, and the replies."""
     before = spent_by(session.process)
     _, replies = session.ask(lines)
@@ -33,7 +37,7 @@ def size(lines: list[str]) -> int:
     return sum(len(line) + 1 for line in lines)
 
 
-def usual(program, rounds):
+def usual(program: str, rounds: int) -> float:
     """Seconds in which a byte of usual lines is loaded."""
     lines, times = publish_lines(USUAL), []
     for _ in range(rounds):
@@ -50,14 +54,14 @@ def measured(program: str, lines: list[str], asked: list[str]) -> tuple[float, f
         return loading, spent, sum(map(len, replies))
 
 
-def main():
+def main() -> int:
     options = parser(__doc__, rounds=3)
     options.add_argument("names", nargs="*", choices=[[], *HOSTILE])
     chosen = options.parse_args()
     a_byte = usual(chosen.program, chosen.rounds)
     print("workload            lines       bytes      loading     asked  answered      replies    to loading  to bytes")
     for name in chosen.names or HOSTILE:
-        lines, requests = HOSTILE[name]()
+        lines, requests = cast(Any, HOSTILE[name])()
         times = [measured(chosen.program, lines, requests) for _ in range(chosen.rounds)]
         loading, spent, answered = (min(column) for column in zip(*times))
         both = size(lines) + size(requests)

@@ -8,11 +8,12 @@ import json
 import os
 import tempfile
 import time
+from typing import BinaryIO, cast
 
 from bench.measuring import best, parser, session, write_publications
 
 
-def only_json(path):
+def only_json(path: str) -> float:
     with open(path, "rb") as given:
         text = given.read()
     start = time.perf_counter()
@@ -21,14 +22,14 @@ def only_json(path):
     return time.perf_counter() - start
 
 
-def main():
+def main() -> None:
     chosen = parser(__doc__, lines=49_152, rounds=5).parse_args()
     with tempfile.TemporaryDirectory() as folder, tempfile.TemporaryFile() as replies:
         path = os.path.join(folder, "lines")
         write_publications(path, chosen.lines)
         size = os.path.getsize(path)
         rows = [(session(chosen.program, path), only_json(path)) for _ in range(chosen.rounds)]
-        session(chosen.program, path, replies=replies)
+        session(chosen.program, path, replies=cast(BinaryIO, replies))
         replies.seek(0)
         accepted = replies.read().count(b'"ok":true')
     took, loading = best([own for own, _ in rows]), min(other for _, other in rows)

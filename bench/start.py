@@ -15,7 +15,9 @@ import subprocess
 import tempfile
 import time
 import urllib.request
+from collections.abc import Callable, Sequence
 from statistics import median
+from typing import Any
 
 from bench.lines import publish_lines
 from bench.measuring import parser, session, write
@@ -23,25 +25,26 @@ from dev.building.progress import TOP
 
 REGISTRY = str(TOP / "registry")
 PYTHON, LOADING = "python", "loading"
-QUIET = {"stdin": subprocess.DEVNULL, "stdout": subprocess.DEVNULL, "stderr": subprocess.DEVNULL}
+QUIET: dict[str, Any] = {"stdin": subprocess.DEVNULL, "stdout": subprocess.DEVNULL, "stderr": subprocess.DEVNULL}
 
 
-def run(words):
+def run(words: Sequence[str]) -> None:
     subprocess.run(words, check=False, **QUIET)  # a request that is refused has a status too
 
 
-def served(words):
+def served(words: Sequence[str]) -> None:
     """Begins a page, reads its first list and ends it."""
-    with subprocess.Popen(words, **{**QUIET, "stdout": subprocess.PIPE}, text=True) as page:
+    with subprocess.Popen(words, **dict(QUIET, stdout=subprocess.PIPE), text=True) as page:
+        assert page.stdout
         address = page.stdout.readline().strip()
         with urllib.request.urlopen(address + "api/search") as answer:
             answer.read()
         page.terminate()
 
 
-def taken(do, *words):
+def taken(do: Callable[..., object], *words: object) -> tuple[float, float]:
     """Seconds by the clock and of processors, of this process's children, that something takes."""
-    def processors():
+    def processors() -> float:
         used = resource.getrusage(resource.RUSAGE_CHILDREN)
         return used.ru_utime + used.ru_stime
     begun, before = time.perf_counter(), processors()
@@ -49,7 +52,7 @@ def taken(do, *words):
     return time.perf_counter() - begun, processors() - before
 
 
-def kinds(program: str, journal: str, name: str) -> dict[str, tuple[object, list[str]]]:
+def kinds(program: str, journal: str, name: str) -> dict[str, tuple[Callable[..., object], list[str]]]:
     """What is measured, by its name: how it is run, and its words."""
     kinds = {"list": ["list"], "search": ["search", name[:4]], "show": ["show", name],
              "resolve": ["resolve", f"{name}@*"], "tree": ["tree", name], "refused": ["resolve", f"{name}@>99"]}
@@ -71,7 +74,7 @@ def measured(program: str, versions: int, rounds: int) -> dict[str, tuple[float,
     return {kind: (median(row[kind][0] for row in rows), median(row[kind][1] for row in rows)) for kind in found}
 
 
-def main():
+def main() -> None:
     options = parser(__doc__, rounds=10)
     options.add_argument("--versions", type=int, nargs="+", default=[1514, 49152])
     chosen = options.parse_args()

@@ -8,6 +8,7 @@ from __future__ import annotations
 
 import random
 import sys
+from collections.abc import Callable
 
 from bench.workloads import Workload, about_one, crossed, linked, minor, publish, resolve, through_hubs
 
@@ -28,7 +29,7 @@ def pigeons(count: int, holes: int) -> Workload:
     return lines, [resolve([["p%d" % pigeon, "*"] for pigeon in range(count)])]
 
 
-def dead_chain(name, version, length):
+def dead_chain(name: str, version: int, length: int) -> list[str]:
     """Packages in a row, the last of which rules this version of a package out."""
     names = ["e%02d-%s" % (place, name) for place in range(length)]
     needs = [[[after, "^%d" % version]] for after in names[1:]] + [[[name, "<1.%d.0" % version]]]
@@ -92,7 +93,8 @@ def chain_number(text: str, key: int = 0) -> int:
 
 def in_one_chain(count: int) -> list[str]:
     """So many requirements that fall into one chain: the key adds up what both of their numbers give."""
-    by_chain, found = {}, []
+    by_chain: dict[int, list[int]] = {}
+    found = []
     for last in range(1_000, 10_000):
         by_chain.setdefault(chain_number(str(last)), []).append(last)
     for first in range(1_000, 10_000):
@@ -126,7 +128,7 @@ def one_hub(count: int = 1_024) -> Workload:
     return lines + fill, [crossed()]
 
 
-TUNED = {
+TUNED: dict[str, Callable[[], Workload]] = {
     "chain of 3": lambda: chain_of(3), "chain of 6": lambda: chain_of(6), "pigeons": lambda: pigeons(6, 5),
     "more pigeons": lambda: pigeons(8, 7), "dead chains": lambda: dead_chains(8),
     "longer dead chains": lambda: dead_chains(14), "needs of 6": lambda: needs_each(6),
@@ -134,7 +136,7 @@ TUNED = {
     "refused": refused, "one hub": one_hub, "wide formulas": wide_formulas}
 
 
-def main():
+def main() -> None:
     name = " ".join(sys.argv[1:])
     if name not in TUNED:
         sys.exit("\n".join(TUNED))

@@ -13,6 +13,7 @@ from registry_cli.limits import MOST_NEEDS
 
 Numbers = tuple[int, int, int]
 Need = list[str]  # a name and a requirement
+Package = tuple[str, list[Numbers]]
 Workload = tuple[list[str], list[str]]
 
 
@@ -33,7 +34,7 @@ def resolve(needs: Iterable[Need]) -> str:
     return compact({"op": "resolve", "needs": needs})
 
 
-def rising_versions(rng):
+def rising_versions(rng: random.Random) -> list[Numbers]:
     """10 to 60 versions of one major number, in rising order."""
     versions = [(1, 0, 0)]
     for _ in range(rng.randint(10, 60) - 1):
@@ -42,10 +43,11 @@ def rising_versions(rng):
     return versions
 
 
-def lived_in(size, rng):
+def lived_in(size: int, rng: random.Random) -> tuple[list[Package], list[str]]:
     """`size` packages, each of which needs up to ten before it; some needs leave out the newest versions. Answers their
     names and versions, and the lines that publish them."""
-    packages, lines = [], []
+    packages: list[Package] = []
+    lines = []
     for place in range(size):
         name = "p%05d" % place
         # packages with low numbers are popular
@@ -57,7 +59,7 @@ def lived_in(size, rng):
     return packages, lines
 
 
-def requests_for(packages, rng, count):
+def requests_for(packages: Sequence[Package], rng: random.Random, count: int) -> list[str]:
     """Requests for 20 packages of the later half each."""
     size = len(packages)
     asked = [[requirement(rng, *packages[at]) for at in rng.sample(range(size // 2, size), 20)] for _ in range(count)]
@@ -72,7 +74,7 @@ def lockfile(size: int, seed: int = 1, count: int = 6) -> Workload:
     return lines, requests_for(packages, rng, count)
 
 
-def requirement(rng, name, versions):
+def requirement(rng: random.Random, name: str, versions: Sequence[Numbers]) -> Need:
     """A need on a package that admits versions round the third quarter of the list, whatever else it admits."""
     low, high = rng.choice(versions[:len(versions) // 2]), versions[3 * len(versions) // 4]
     if rng.random() < 0.1:
@@ -94,7 +96,7 @@ def tower(size: int, _seed: int = 1) -> Workload:
     return lines, [resolve([["l000", "^1"], ["r000", "^1"]])]
 
 
-def below(size, storey, side, number):
+def below(size: int, storey: int, side: str, number: int) -> list[Need]:
     if storey + 1 == size:
         return [["foot", "~1.%d.0" % (number if side == "l" else number + 1)], ["key", "~1.%d.0" % number]]
     span = ">=1.%d.0, <1.%d.0" % (max(0, number - 1), number + 1)
@@ -175,7 +177,7 @@ def conflicting(size: int, seed: int = 1, count: int = 16) -> Workload:
     return lines, requests
 
 
-def window(rng):
+def window(rng: random.Random) -> str:
     """A requirement for some versions in a row: three, or, of three in ten, fewer at the upper end."""
     low = rng.randrange(VERSIONS)
     low = min(low, VERSIONS - WINDOW) if rng.random() < 0.7 else low
@@ -230,7 +232,7 @@ def chain(size: int, seed: int = 1) -> Workload:
 
 # ---- what fills a store: each request leads to a conflict for each package that it asks for
 
-def in_parts(names, needs):
+def in_parts(names: Sequence[str], needs: Sequence[Need]) -> list[str]:
     """Requests for so many packages each, and for these needs."""
     most = MOST_NEEDS - len(needs)
     return [resolve([*needs, *([name, "*"] for name in names[at:at + most])]) for at in range(0, len(names), most)]

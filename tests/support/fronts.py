@@ -8,7 +8,8 @@ import signal
 import subprocess
 import sys
 import time
-from typing import NamedTuple
+from collections.abc import Collection, Iterable, Sequence
+from typing import Any, NamedTuple
 
 from registry_cli import tied
 from tests.support.plain_session import PlainSession, read_request
@@ -29,21 +30,21 @@ class Told(NamedTuple):
     is_again: bool = False
 
     @property
-    def found(self):
+    def found(self) -> Any:
         return json.loads(self.reply)
 
     @property
-    def plain(self):
+    def plain(self) -> str:
         """The reply as a session gives it, without place and seat."""
         return STAMP.sub(r'\2"revision":\3', self.reply, count=1)
 
 
-def words(what, endpoints, *more):
+def words(what: str, endpoints: Iterable[str], *more: str) -> list[str]:
     # without what is installed beside: a front needs the standard library alone, and begins sooner so
     return [*ETCD, what, "--endpoints", ",".join(endpoints), "--program", PROGRAM, *more]
 
 
-def run(what, endpoints, *more, given=b""):
+def run(what: str, endpoints: Iterable[str], *more: str, given: bytes = b"") -> subprocess.CompletedProcess[bytes]:
     return subprocess.run(words(what, endpoints, *more), input=given, capture_output=True, timeout=100)
 
 
@@ -52,14 +53,16 @@ class Front:
     with the same lines. Where cells may be dropped it may say that a reply is no longer kept: then it goes on by
     another name, and of the lines that had no reply it is open whether they stand."""
 
-    def __init__(self, endpoints, seat, *more, writer=None, may_forget=False):
+    def __init__(self, endpoints: Iterable[str], seat: int, *more: str, writer: str | None = None,
+                 may_forget: bool = False) -> None:
         self.words = words("serve", endpoints, "--seat", str(seat), *more)
-        self.seat, self.told, self.child = seat, [], None
-        self.writer, self.may_forget, self.names = writer, may_forget, 0
+        self.seat, self.writer, self.may_forget, self.names = seat, writer, may_forget, 0
+        self.told: list[Told] = []
+        self.child: Any = None
         self.first = 0  # of what was told: where this name begins
-        self.open = []  # lines that may stand
+        self.open: list[str] = []  # lines that may stand
 
-    def begin(self):
+    def begin(self) -> None:
         """Begins, or begins again, and then asks once more what was answered: what stands in a cell is answered
         as before."""
         named = ["--writer", f"{self.writer}-{self.names}" if self.names else self.writer] if self.writer else []
@@ -71,9 +74,9 @@ class Front:
             again = "AlreadyPublished" in reply if "AlreadyPublished" in old.reply else reply == old.reply
             assert again or not is_entered(old.line), f"{old.line} was answered {old.reply} and then {reply}"
 
-    def replies(self, lines):
+    def replies(self, lines: Sequence[str]) -> list[str]:
         """The replies to lines that are sent together, as many as come before the front ends."""
-        told = []
+        told: list[str] = []
         try:
             for at in range(0, len(lines), 100):
                 some = lines[at:at + 100]
@@ -87,12 +90,12 @@ class Front:
             pass
         return [reply[:-1] for reply in told]
 
-    def send(self, lines):
+    def send(self, lines: Sequence[str]) -> list[str] | None:
         """The replies to lines that are sent together; none where the front ended before."""
         told = self.replies(lines)
         return told if len(told) == len(lines) else None
 
-    def ask(self, *lines):
+    def ask(self, *lines: str) -> list[str]:
         """Asks until these lines are answered, and begins the front again where it ended."""
         asked, is_again = time.monotonic(), False
         while True:
@@ -110,7 +113,7 @@ class Front:
             self.begin()
             is_again = True
 
-    def end(self):
+    def end(self) -> tuple[int, str]:
         """Ends the front, and answers its status and what it says of itself."""
         if self.child.stderr.closed:
             return self.child.returncode, "it had ended"
@@ -124,7 +127,7 @@ class Front:
         return self.child.wait(timeout=100), said
 
 
-def fault(printed, fronts, opened=()):
+def fault(printed: str, fronts: Collection[Iterable[Told]], opened: Iterable[str] = ()) -> str | None:
     """What is wrong with what these lists of `Told` say, if the printed file is the journal; nothing where all is
     right. Of opened lines nobody was told whether they stand."""
     lines = printed.split("\n")
@@ -135,7 +138,7 @@ def fault(printed, fronts, opened=()):
             or place_fault(told) or time_fault(told) or lawful_fault(journal, told))
 
 
-def order_fault(front):
+def order_fault(front: Iterable[Told]) -> str | None:
     """Within one front places and revisions never go back, and each accepted command has a place of its own behind
     those before it. Where a front was begun again, a command that stood already has its place from before, though a
     line that changes nothing and was sent in front of it is answered anew."""
@@ -150,11 +153,11 @@ def order_fault(front):
     return None
 
 
-def is_entered(line):
+def is_entered(line: str) -> bool:
     return json.loads(line)["op"] in ("publish", "yank", "unyank")
 
 
-def accepted_fault(journal, told, opened):
+def accepted_fault(journal: Sequence[str], told: Iterable[Told], opened: Iterable[str]) -> str | None:
     """The journal has each accepted command where its reply says, and no other, but for some of those that are open."""
     accepted = [it for it in told if "ok" in it.found]
     stands = {it.found["revision"]: it for it in accepted}
@@ -169,7 +172,7 @@ def accepted_fault(journal, told, opened):
                  != journal_line(it.line)), None)
 
 
-def taken(lines, line):
+def taken(lines: list[str], line: str) -> bool:
     """Takes a line out of a list, and answers whether it was there."""
     if line not in lines:
         return False
@@ -177,9 +180,10 @@ def taken(lines, line):
     return True
 
 
-def place_fault(told):
+def place_fault(told: Iterable[Told]) -> str | None:
     """A place is one revision and one listing, whoever tells it, and a later place no earlier revision."""
-    revisions, listings = {}, {}
+    revisions: dict[int, int] = {}
+    listings: dict[int, str] = {}
     for it in told:
         place, revision = it.found["place"], it.found["revision"]
         if revisions.setdefault(place, revision) != revision:
@@ -190,7 +194,7 @@ def place_fault(told):
     return None if ordered == sorted(ordered) else "a later place has an earlier revision"
 
 
-def time_fault(told):
+def time_fault(told: Collection[Told]) -> str | None:
     """Whoever asks after a command was answered finds it."""
     accepted = sorted((it.had, it.found["revision"]) for it in told if "ok" in it.found)
     ends, highest, most = [had for had, _ in accepted], [0], 0
@@ -204,9 +208,10 @@ def time_fault(told):
     return None
 
 
-def lawful_fault(journal, told):
+def lawful_fault(journal: Sequence[str], told: Iterable[Told]) -> str | None:
     """Each reply is one that a session may give after the accepted commands before it."""
-    session, by_revision = PlainSession(), {}
+    session = PlainSession()
+    by_revision: dict[int, list[Told]] = {}
     for it in told:
         if "ok" not in it.found:
             by_revision.setdefault(it.found["revision"], []).append(it)

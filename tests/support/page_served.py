@@ -4,6 +4,8 @@ import http.client
 import json
 import os
 import threading
+from collections.abc import Iterable
+from typing import Any
 from unittest import mock
 from urllib.parse import urlencode
 
@@ -21,7 +23,7 @@ WORKED = [publish("log", "1.0.0"), publish("log", "1.2.0"), publish("log", "1.10
 class Served(Folder):
     """Tests of a page. It is served from `self.serve()` on, to the end of the test."""
 
-    def serve(self, *lines, seconds=60):
+    def serve(self, *lines: str, seconds: float = 60) -> Server:
         self.enterContext(mock.patch.dict(os.environ, {"REGISTRY_PROGRAM": PROGRAM}))
         if lines:
             self.hold(*lines)
@@ -35,7 +37,8 @@ class Served(Folder):
         self.addCleanup(self.server.shutdown)
         return self.server
 
-    def ask(self, path, method="GET", host=None, **headers):
+    def ask(self, path: str, method: str = "GET", host: Iterable[str] | None = None,
+            **headers: str) -> tuple[int, http.client.HTTPMessage, bytes]:
         """The status, the headers and the contents that a request is answered with."""
         with contextlib.closing(http.client.HTTPConnection("127.0.0.1", self.server.port, timeout=60)) as connection:
             connection.putrequest(method, path, skip_host=True)
@@ -47,7 +50,7 @@ class Served(Folder):
             reply = connection.getresponse()
             return reply.status, reply.headers, reply.read()
 
-    def told(self, answer, status=200, **fields):
+    def told(self, answer: str, status: int = 200, **fields: object) -> Any:
         """The value that the page is answered."""
         found, _, text = self.ask(f"/api/{answer}?{urlencode(fields, doseq=True)}")
         self.assertEqual(found, status, text)

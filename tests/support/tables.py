@@ -7,27 +7,27 @@ from tests.support.program import TOP
 
 
 class Table:
-    def __init__(self, title, place):
-        self.title, self.place = title, place
-        self.rows = []  # (request line, reply line, place)
-        self.seat, self.journal = 1, []
+    def __init__(self, title: str, place: str) -> None:
+        self.title, self.place, self.seat = title, place, 1
+        self.rows: list[tuple[bytes, str, str]] = []  # (request line, reply line, place)
+        self.journal: list[str] = []
 
-    def requests(self):
+    def requests(self) -> bytes:
         return b"".join(line + b"\n" for line, _, _ in self.rows)
 
-    def replies(self):
+    def replies(self) -> list[str]:
         return [reply for _, reply, _ in self.rows]
 
 
 class Reader:
     """Reads the lines of one file, from its first to its last."""
 
-    def __init__(self):
-        self.tables, self.is_title = [], False
-        self.waiting = []  # request lines without a reply so far, with their places
-        self.base = b""
+    def __init__(self) -> None:
+        self.tables: list[Table] = []
+        self.waiting: list[tuple[bytes, str]] = []  # request lines without a reply so far, with their places
+        self.is_title, self.base = False, b""
 
-    def read(self, text, place):
+    def read(self, text: str, place: str) -> None:
         demand(text == text.rstrip() and text.isascii(), "a space at the end, or a letter that is not ASCII", place)
         sign, _, rest = text.partition(" ")
         if text.startswith("#"):
@@ -37,7 +37,7 @@ class Reader:
             self.row(sign, rest, place)
         self.is_title = text.startswith("#")
 
-    def title(self, text, place):
+    def title(self, text: str, place: str) -> None:
         if self.is_title:
             self.tables[-1].title += " " + text
             return
@@ -45,7 +45,7 @@ class Reader:
         self.tables.append(Table(text, place))
         self.base = b""
 
-    def row(self, sign, rest, place):
+    def row(self, sign: str, rest: str, place: str) -> None:
         table = self.tables[-1]
         if sign == "seat":
             table.seat = int(rest)
@@ -58,7 +58,7 @@ class Reader:
         else:
             self.waiting.append((self.request(sign, rest, place), place))
 
-    def request(self, sign, rest, place):
+    def request(self, sign: str, rest: str, place: str) -> bytes:
         demand(sign in (">", "%", "~"), f"no such sign: {sign}", place)
         if sign == "~":
             old, _, new = rest.partition(" as ")
@@ -68,17 +68,17 @@ class Reader:
         demand(b"\n" not in self.base, "a line feed in a line", place)
         return self.base
 
-    def close(self, place):
+    def close(self, place: str) -> None:
         demand(not self.waiting, "a line above has no reply", place)
         demand(not self.tables or self.tables[-1].rows or self.tables[-1].journal, "the table above is empty", place)
 
 
-def demand(holds, told, place):
+def demand(holds: object, told: str, place: str) -> None:
     if not holds:
         raise ValueError(f"{place}: {told}")
 
 
-def tables_in(path):
+def tables_in(path: str) -> list[Table]:
     """The tables of a file."""
     reader, number = Reader(), 0
     with open(path, encoding="utf-8", newline="\n") as lines:
@@ -88,7 +88,7 @@ def tables_in(path):
     return reader.tables
 
 
-def tables_under(folder):
+def tables_under(folder: str) -> list[Table]:
     """The tables of each file of a folder of `rows/`."""
     top = os.path.join(TOP, "rows", folder)
     return [table for name in sorted(os.listdir(top)) if name.endswith(".rows")

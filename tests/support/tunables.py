@@ -16,7 +16,7 @@ ROWS = [(None, ASKED), ("", ASKED),
 TELL = f"printf '%s\\n' \"${{{NAME}-none}}\"\n"
 
 
-def environment(given):
+def environment(given: str | None) -> dict[str, str]:
     """This environment, with this of the user."""
     return {**{name: text for name, text in os.environ.items() if name != NAME},
             **({} if given is None else {NAME: given})}
