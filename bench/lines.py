@@ -7,7 +7,7 @@ import random
 WORDS = ["core", "io", "util", "macros", "sys", "http", "x"]
 
 
-def requirement(rng, version):
+def requirement(rng: random.Random, version: tuple[int, int, int]) -> str:
     """A requirement that admits this version and later ones of its range."""
     major, minor, patch = version
     kind = rng.random()
@@ -24,7 +24,8 @@ def requirement(rng, version):
 
 def publish_lines(count: int, seed: int = 1) -> list[str]:
     """`count` publish lines: packages of 10 to 60 versions, each of which needs 3 to 10 packages before it."""
-    rng, packages, lines = random.Random(seed), [], []
+    rng, lines = random.Random(seed), list[str]()
+    packages: list[tuple[str, list[tuple[int, int, int]]]] = []
     while len(lines) < count:
         name = f"p{len(packages):05d}-{rng.choice(WORDS)}"
         most = min(len(packages), rng.randint(3, 10))

@@ -9,6 +9,7 @@ least budget under which it is answered: under less it is answered that its budg
 """
 import json
 import sys
+from collections.abc import Sequence
 
 from bench import workloads
 from bench.lines import publish_lines
@@ -19,11 +20,11 @@ SPENT = b'"error":22'
 MOST_CONFLICTS = 4_294_967_295
 
 
-def within(request, budget):
+def within(request: str, budget: int) -> str:
     return json.dumps({**json.loads(request), "budget": budget}, separators=(",", ":"))
 
 
-def conflicts(session, request):
+def conflicts(session: Session, request: str) -> int:
     """The least budget that answers a request, which is learnt of then."""
     budget = 0
     while SPENT in session.resolve(within(request, budget))[1]:
@@ -31,14 +32,14 @@ def conflicts(session, request):
     return budget
 
 
-def warm(session, request, budget):
+def warm(session: Session, request: str, budget: int) -> None:
     """Has most of a request searched a few times, so that neither the first request of a session pays for the pages
     that the program had not touched, nor anything is learnt."""
     for _ in range(3 if budget else 0):
         session.resolve(within(request, budget - 1))
 
 
-def begun(program, lines):
+def begun(program: str, lines: Sequence[str]) -> Session:
     session = Session(program)
     session.load(lines)
     return session
@@ -46,7 +47,7 @@ def begun(program, lines):
 
 # ---- twice the same request
 
-def counted(program, lines, request):
+def counted(program: str, lines: Sequence[str], request: str) -> tuple[int, int]:
     """The conflicts of a request, and of the same request after it."""
     with begun(program, lines) as session:
         first = conflicts(session, request)
@@ -55,7 +56,7 @@ def counted(program, lines, request):
         return first, conflicts(session, request)
 
 
-def twice(program, lines, request, budget, rounds):
+def twice(program: str, lines: Sequence[str], request: str, budget: int, rounds: int) -> tuple[float, float]:
     """The best seconds of a request, and of the same request after it, each time in a session of its own."""
     firsts, seconds = [], []
     for _ in range(rounds):
@@ -68,20 +69,20 @@ def twice(program, lines, request, budget, rounds):
 
 # ---- many requests
 
-def together(program, lines, requests):
+def together(program: str, lines: Sequence[str], requests: Sequence[str]) -> float:
     with begun(program, lines) as session:
         return sum(session.resolve(request)[0] for request in requests)
 
 
-def apart(program, lines, requests):
-    spent = 0
+def apart(program: str, lines: Sequence[str], requests: Sequence[str]) -> float:
+    spent: float = 0
     for request in requests:
         with begun(program, lines) as session:
             spent += session.resolve(request)[0]
     return spent
 
 
-def report_shared(program, rounds, sessions):
+def report_shared(program: str, rounds: int, sessions: int) -> None:
     print("workload  size  lines   conflicts, second      first     second   share"
           f"   {sessions} in one session, each in one   share")
     for name, (make, size) in workloads.SHARED.items():
@@ -97,7 +98,7 @@ def report_shared(program, rounds, sessions):
 
 # ---- a full store
 
-def filled(program, lines, fill):
+def filled(program: str, lines: Sequence[str], fill: Sequence[str]) -> Session:
     """A session in which these requests were answered, so that nothing more is stored. Each has a budget: without one,
     a request whose selection is found without a search may teach nothing."""
     session = begun(program, lines)
@@ -106,13 +107,13 @@ def filled(program, lines, fill):
     return session
 
 
-def is_stored(session, request):
+def is_stored(session: Session, request: str) -> bool:
     """Whether what a request of `dead_ends` or `about_one` leads to is stored: then a second one meets one conflict at
     most, where the first one met one for each of its packages."""
     return SPENT not in session.resolve(within(request, 1))[1]
 
 
-def beside(program, lines, fill, request, rounds):
+def beside(program: str, lines: Sequence[str], fill: Sequence[str], request: str, rounds: int) -> tuple[float, float]:
     """The best seconds of a request where nothing is stored, and where the store is full."""
     with begun(program, lines) as session:
         budget = conflicts(session, request)
@@ -132,11 +133,11 @@ def beside(program, lines, fill, request, rounds):
     return min(empty), min(full)
 
 
-def report(what, empty, full):
+def report(what: str, empty: float, full: float) -> None:
     print(f"{what:58}{empty * 1000:9.3f} ms{full * 1000:9.3f} ms{full / empty:8.3f}", flush=True)
 
 
-def report_full(program, rounds):
+def report_full(program: str, rounds: int) -> None:
     print(f"\nwhere {STORE} are stored, beside none{'':29}none         full   share")
     dead, fill = workloads.dead_ends(STORE)
     for name, size in (("tower", 7), ("tower", 16), ("chain", 30), ("worn", 300)):
@@ -148,12 +149,12 @@ def report_full(program, rounds):
     report_ingest(program, rounds, dead, fill)
 
 
-def loaded(session, lines):
+def loaded(session: Session, lines: Sequence[str]) -> float:
     with session:
         return session.load(lines)
 
 
-def report_ingest(program, rounds, dead, fill):
+def report_ingest(program: str, rounds: int, dead: Sequence[str], fill: Sequence[str]) -> None:
     others = publish_lines(20_000)
     # versions that meet no premise, of packages that members rest on
     beyond = [line.replace('"1.0.0"', '"2.0.0"') for line in dead if '"1.0.0"' in line]
@@ -164,7 +165,7 @@ def report_ingest(program, rounds, dead, fill):
         report(what, min(empty), min(full))
 
 
-def main():
+def main() -> None:
     chosen = parser(__doc__, rounds=10, sessions=200).parse_args()
     report_shared(chosen.program, chosen.rounds, chosen.sessions)
     report_full(chosen.program, chosen.rounds)

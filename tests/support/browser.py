@@ -11,6 +11,7 @@ import select
 import subprocess
 import tempfile
 import time
+from typing import Any, Self
 
 COMMAND = "chromium"
 PATIENCE = 60  # seconds in which whatever is waited for comes, on a busy machine too
@@ -21,7 +22,7 @@ KEYS = {"Enter": 13, "Escape": 27, "Tab": 9, "Backspace": 8, "ArrowDown": 40, "A
         "ArrowLeft": 37, "ArrowRight": 39}
 
 
-def high(number):
+def high(number: int) -> int:
     """The same file under a number that the shell gives to nothing else."""
     other = fcntl.fcntl(number, fcntl.F_DUPFD, 20)
     os.close(number)
@@ -32,7 +33,7 @@ class Browser:
     """A browser with one page. `said` has what the page's script says of faults, `asked` each address that it asks
     for."""
 
-    def __init__(self):
+    def __init__(self) -> None:
         self.folder = tempfile.TemporaryDirectory(ignore_cleanup_errors=True)
         theirs_in, self.to_it = map(high, os.pipe())
         self.from_it, theirs_out = map(high, os.pipe())
@@ -43,15 +44,17 @@ class Browser:
                                         stdout=subprocess.DEVNULL, stderr=subprocess.DEVNULL, start_new_session=True)
         for it in (theirs_in, theirs_out):
             os.close(it)
-        self.rest, self.number, self.session, self.said, self.asked = b"", 0, None, [], []
+        self.rest, self.number, self.session = b"", 0, None
+        self.said: list[Any] = []
+        self.asked: list[str] = []
         target = self.tell("Target.createTarget", url="about:blank")["targetId"]
         self.session = self.tell("Target.attachToTarget", targetId=target, flatten=True)["sessionId"]
-        for it in ("Page", "Runtime", "Network", "Log"):
-            self.tell(f"{it}.enable")
+        for domain in ("Page", "Runtime", "Network", "Log"):
+            self.tell(f"{domain}.enable")
 
     # ---- the pipe
 
-    def tell(self, method, **more):
+    def tell(self, method: str, **more: Any) -> Any:
         """What the browser answers to a command."""
         self.number += 1
         message = {"id": self.number, "method": method, "params": more,
@@ -65,7 +68,7 @@ class Browser:
                 return heard["result"]
             self.note(heard)
 
-    def hear(self):
+    def hear(self) -> Any:
         """The next message."""
         end = time.monotonic() + PATIENCE
         while b"\0" not in self.rest:
@@ -78,7 +81,7 @@ class Browser:
         text, self.rest = self.rest.split(b"\0", 1)
         return json.loads(text)
 
-    def note(self, heard):
+    def note(self, heard: Any) -> None:
         """Keeps what is told without being asked for."""
         method, told = heard.get("method"), heard.get("params")
         if method == "Runtime.exceptionThrown":
@@ -93,11 +96,11 @@ class Browser:
 
     # ---- a page
 
-    def open(self, address):
+    def open(self, address: str) -> None:
         self.tell("Page.navigate", url=address)
         self.until("document.readyState === 'complete'")
 
-    def value(self, script):
+    def value(self, script: str) -> Any:
         """What an expression of the page's script is."""
         told = self.tell("Runtime.evaluate", expression=script, returnByValue=True,
                          awaitPromise=True, allowUnsafeEvalBlockedByCSP=False)
@@ -105,7 +108,7 @@ class Browser:
             raise AssertionError(f"{script}: {told['exceptionDetails'].get('exception', {}).get('description')}")
         return told["result"].get("value")
 
-    def until(self, script):
+    def until(self, script: str) -> None:
         """Waits until an expression is true."""
         end = time.monotonic() + PATIENCE
         while True:
@@ -117,53 +120,53 @@ class Browser:
                                      f"{self.value('document.body.innerText')[:500]!r} and {self.said}")
             time.sleep(0.03)
 
-    def size(self, wide, high=900, is_dark=False):
+    def size(self, wide: int, high: int = 900, is_dark: bool = False) -> None:
         self.tell("Emulation.setDeviceMetricsOverride", width=wide, height=high, deviceScaleFactor=1, mobile=False)
         self.tell("Emulation.setEmulatedMedia", features=[{"name": "prefers-color-scheme",
                                                            "value": "dark" if is_dark else "light"}])
 
-    def middle(self, selector, before=""):
+    def middle(self, selector: str, before: str = "") -> Any:
         """The middle of the first such element."""
         return self.value(f"(() => {{ const it = document.querySelector({json.dumps(selector)}); {before}"
                           "const box = it.getBoundingClientRect();"
                           "return [box.x + box.width / 2, box.y + box.height / 2] })()")
 
-    def mouse(self, kind, x, y, **more):
+    def mouse(self, kind: str, x: float, y: float, **more: Any) -> None:
         self.tell("Input.dispatchMouseEvent", type=kind, x=x, y=y, **more)
 
-    def click(self, selector):
+    def click(self, selector: str) -> None:
         """Clicks in the middle of the first such element, wherever it is scrolled to."""
         self.until(f"document.querySelector({json.dumps(selector)})")
         place = self.middle(selector, "it.scrollIntoView({block: 'center', inline: 'center'});")
         for kind in ("mousePressed", "mouseReleased"):
             self.mouse(kind, *place, button="left", clickCount=1)
 
-    def drag(self, selector, across, down):
+    def drag(self, selector: str, across: float, down: float) -> None:
         """Moves the mouse from the middle of an element, pressed."""
         x, y = self.middle(selector)
         for kind, part in (("mousePressed", 0), ("mouseMoved", 0.5), ("mouseMoved", 1), ("mouseReleased", 1)):
             self.mouse(kind, x + across * part, y + down * part, button="left", clickCount=1)
 
-    def wheel(self, selector, down):
+    def wheel(self, selector: str, down: float) -> None:
         self.mouse("mouseWheel", *self.middle(selector), deltaX=0, deltaY=down)
 
-    def type(self, text):
+    def type(self, text: str) -> None:
         """Types into what has the focus, a letter at a time."""
         for letter in text:
             self.tell("Input.dispatchKeyEvent", type="keyDown", text=letter, key=letter)
             self.tell("Input.dispatchKeyEvent", type="keyUp", key=letter)
 
-    def press(self, key):
+    def press(self, key: str) -> None:
         text = {"text": "\r"} if key == "Enter" else {}
         self.tell("Input.dispatchKeyEvent", type="keyDown", key=key, code=key, windowsVirtualKeyCode=KEYS[key], **text)
         self.tell("Input.dispatchKeyEvent", type="keyUp", key=key, code=key, windowsVirtualKeyCode=KEYS[key])
 
-    def back(self):
+    def back(self) -> None:
         """The back button."""
         told = self.tell("Page.getNavigationHistory")
         self.tell("Page.navigateToHistoryEntry", entryId=told["entries"][told["currentIndex"] - 1]["id"])
 
-    def end(self):
+    def end(self) -> None:
         with contextlib.suppress(AssertionError, OSError):
             self.session = None
             self.tell("Browser.close")
@@ -176,8 +179,8 @@ class Browser:
             self.process.wait()
         self.folder.cleanup()
 
-    def __enter__(self):
+    def __enter__(self) -> Self:
         return self
 
-    def __exit__(self, *_):
+    def __exit__(self, *_: object) -> None:
         self.end()

@@ -1,11 +1,12 @@
 """Rows that the clients in Python, Rust and C are all tested with; clients/rust/tests reads the same files."""
 import json
 import os
+from typing import Any
 
 from tests.support.program import TOP, publish, yank
 
 
-def rows(name):
+def rows(name: str) -> list[Any]:
     with open(os.path.join(TOP, "rows", name), encoding="utf-8") as text:
         return [json.loads(line) for line in text if line.startswith("{")]
 
@@ -19,7 +20,7 @@ CULPRITS = [(it["asked"], it["error"], it["place"], it["package"], it["text"], i
             for it in rows("culprits.rows")]
 
 
-def line_of(explanation):
+def line_of(explanation: object) -> str:
     """The reply line that has an explanation."""
     return json.dumps({"derivation": [], "explanation": explanation, "refused": True, "revision": 6},
                       separators=(",", ":"))

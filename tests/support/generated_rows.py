@@ -5,38 +5,43 @@ files under rows/, and a table begins a session of its own. The comment of the f
 wanted.
 """
 import json
+from collections.abc import Callable, Iterable, Iterator
+from typing import Any
 
 from tests.support.program import publish
 
-GENERATORS = []
+Rows = list[dict[str, Any]]
+Tables = Callable[[], Iterator[tuple[str, Rows]]]
+
+GENERATORS: list[Tables] = []
 
 
-def tables(make):
+def tables(make: Tables) -> Tables:
     GENERATORS.append(make)
     return make
 
 
-def row(of, call, gives=None, **given):
+def row(of: str, call: str, gives: Any = None, **given: Any) -> dict[str, Any]:
     return {"of": of, "call": call, **given, "gives": gives}
 
 
-def pairs(texts):
+def pairs(texts: Iterable[str]) -> list[list[str]]:
     """Texts of two words, as `log ^1`, as pairs."""
     return [text.split(" ", 1) for text in texts]
 
 
-def entered(lines):
+def entered(lines: Iterable[str]) -> Rows:
     """Rows that enter commands, given as request lines, each of which is accepted."""
     commands = map(json.loads, lines)
     return [row("registry", it.pop("op"), revision, **it) for revision, it in enumerate(commands, 1)]
 
 
-def published(*versions):
+def published(*versions: tuple[str, ...]) -> Rows:
     """Rows that publish versions, each given as a name, a version and what it needs."""
     return entered(publish(name, version, needs) for name, version, *needs in versions)
 
 
-def premise(package, target, within):
+def premise(package: Any, target: Any, within: Any) -> dict[str, Any]:
     return {"package": package, "versions": [0], "target": target, "need": "^1.0.0", "within": within}
 
 
@@ -46,7 +51,7 @@ PATCHES = 70
 
 
 @tables
-def requirements_beyond_those_whose_sets_are_kept():
+def requirements_beyond_those_whose_sets_are_kept() -> Iterator[tuple[str, Rows]]:
     """docs/ARCHITECTURE.md, "A publish line": the first requirements on a package have their sets kept."""
     needs = [f"{sign}0.0.{patch}" for sign in (">=", "<") for patch in range(PATCHES)]
     users = [("b", f"1.{place}.0", f"a {need}") for place, need in enumerate(needs)]
@@ -56,10 +61,11 @@ def requirements_beyond_those_whose_sets_are_kept():
 
 
 @tables
-def many_requests_at_once():
+def many_requests_at_once() -> Iterator[tuple[str, Rows]]:
     """Each request is met by one version alone, and every ninth by none."""
     versions = [f"1.{minor}.0" for minor in range(16)]
-    requests, answers = [], []
+    requests: list[Any] = []
+    answers: list[Any] = []
     for place in range(256):
         version, is_hopeless = versions[place * 7 % 16], place % 9 == 8
         needs = [["a", f"={version}"], *([["b", "*"]] if is_hopeless else [])]

@@ -4,6 +4,7 @@ import json
 import math
 import re
 from functools import lru_cache
+from typing import Any
 
 from registry_cli import check_derivation
 from registry_cli.check_derivation import CAUSES, COMMANDS, LINE, PAIRS, RESOLVE, ROOT, formed
@@ -15,39 +16,39 @@ MOST_DEPTH = 127
 MOST_TRIES = 500
 BRACKETS = re.compile(r"[\[\]{}]")
 STRING = re.compile(r'"(?:[^"\\]|\\.)*"')
-FORMS = {form["op"]: form for form in COMMANDS} | {
+FORMS: dict[Any, dict[str, Any]] = {form["op"]: form for form in COMMANDS} | {
     "list": {"op": "list"}, "resolve": RESOLVE,
     "check": {"op": "check", "needs": PAIRS, "lock": PAIRS, "derivation": [LINE]}}
-LEFT_OUT = {"resolve": {"lock": [], "explain": False, "budget": 0}, "check": {"lock": []}}
+LEFT_OUT: dict[str, dict[str, Any]] = {"resolve": {"lock": [], "explain": False, "budget": 0}, "check": {"lock": []}}
 
 
 # ---- JSON
 
-def whole(text):
+def whole(text: str) -> float:
     """An integer, or a number with a fraction where it has more than 64 bits, or is `-0`."""
     number = int(text) if len(text) < 400 else float(text)
     return number if isinstance(number, int) and -2 ** 63 <= number < 2 ** 64 and text != "-0" else finite(text)
 
 
-def finite(text):
+def finite(text: str) -> float:
     number = float(text)
     if number in (float("inf"), float("-inf")):
         raise ValueError(text)
     return number
 
 
-def refuse(text):
+def refuse(text: str) -> None:
     raise ValueError(text)
 
 
-def members(pairs):
+def members(pairs: list[tuple[str, Any]]) -> dict[str, Any]:
     for name, value in pairs:
         sound(name)
         sound(value)
     return dict(pairs)
 
 
-def sound(value):
+def sound(value: Any) -> None:
     """No text in it has half of a pair of surrogates."""
     if isinstance(value, list):
         for it in value:
@@ -61,7 +62,7 @@ READ = {hook: json.JSONDecoder(parse_int=whole, parse_float=finite, parse_consta
                                object_pairs_hook=hook).decode for hook in (None, members)}
 
 
-def depth(text):
+def depth(text: str) -> int:
     """How deep brackets nest in a text that is JSON; no deeper than there are any that open."""
     deep, most = 0, text.count("[") + text.count("{")
     if most <= MOST_DEPTH:
@@ -73,7 +74,7 @@ def depth(text):
     return most
 
 
-def read_json(line):
+def read_json(line: bytes) -> Any:
     """The value of a line, none where it is no JSON."""
     try:
         text = line.decode()
@@ -89,7 +90,7 @@ def read_json(line):
 
 # ---- lines
 
-def read_request(line):
+def read_request(line: bytes) -> dict[str, Any] | None:
     """What a line asks, with what it leaves out; none where it is of no form."""
     value = read_json(line) if len(line) <= MOST_LINE_BYTES else None
     op = value.get("op") if isinstance(value, dict) else None
@@ -102,17 +103,17 @@ def read_request(line):
     return {**asked, "budgeted": "budget" in value}
 
 
-def is_whose(name):
+def is_whose(name: str) -> object:
     return name == ROOT or NAME.fullmatch(name)
 
 
-def kind_of(cause):
+def kind_of(cause: Any) -> Any:
     """The kind that a cause would be of, if it is of any."""
     kind = "line" if "line" in cause else cause.get("fact")
     return kind if isinstance(kind, str) and kind in CAUSES else None
 
 
-def named_well(row):
+def named_well(row: Any) -> bool:
     """Whether the causes of a derivation's line are of a form, and its names are such."""
     if not all(kind_of(cause) and formed(cause, CAUSES[kind_of(cause)]) for cause in row["causes"]):
         return False
@@ -122,30 +123,28 @@ def named_well(row):
 
 
 @lru_cache(maxsize=None)
-def is_requirement(text):
+def is_requirement(text: str) -> bool:
     return check_derivation.read_requirement(text) is not None
 
 
 class Requirements:
     """All requirements there are."""
 
-    def __contains__(self, text):
+    def __contains__(self, text: Any) -> bool:
         return is_requirement(text)
 
 
 @lru_cache(maxsize=100_000)
-def admits(requirement, version):
-    return check_derivation.admits(requirement, check_derivation.read_version(version))
+def admits(requirement: str, version: str) -> bool:
+    return check_derivation.admits(requirement, check_derivation.precedence(version))
 
 
 class Published(plain_search.Published):
     """What was published, under requirements of any form."""
 
-    @staticmethod
-    def matches(requirement, version):
-        return admits(requirement, version)
+    matches = staticmethod(admits)
 
-    def is_lawful(self, selected, needs, lock):
+    def is_lawful(self, selected: Any, needs: Any, lock: Any) -> bool:
         """Whether a selection meets a request, and has no more than that needs."""
         chosen = {}
         for name, text in selected:
@@ -157,7 +156,7 @@ class Published(plain_search.Published):
         in_order = list(chosen) == sorted(chosen) and len(chosen) == len(selected)
         return met and in_order and self.reached(chosen, needs) == set(chosen)
 
-    def is_met_by_some(self, needs, lock):
+    def is_met_by_some(self, needs: Any, lock: Any) -> bool | None:
         """Whether a selection meets a request, where that takes few tries; unknown elsewhere, which is none."""
         names, left = set(), [name for name, _ in needs]
         while left:
@@ -172,12 +171,12 @@ class Published(plain_search.Published):
 class PlainSession:
     """One session, as far as its lines were judged."""
 
-    def __init__(self):
+    def __init__(self) -> None:
         self.registry, self.published, self.judged = Registry(), Published(), check_derivation.Registry()
-        self.accepted = []  # the commands, in order
-        self.answered = {}  # by what was asked at which revision: whether a selection was answered
+        self.accepted: list[dict[str, Any]] = []  # the commands, in order
+        self.answered: dict[object, bool] = {}  # by what was asked at which revision: whether a selection was answered
 
-    def fault(self, line, reply):
+    def fault(self, line: bytes, reply: str) -> str | None:
         """What is wrong with the reply to a line; nothing where it may be answered so."""
         asked = read_request(line)
         if asked is None:
@@ -196,13 +195,13 @@ class PlainSession:
             self.accepted.append(asked)
         return self.exactly(reply, wanted)
 
-    def exactly(self, reply, wanted):
+    def exactly(self, reply: str, wanted: str) -> str | None:
         return None if reply == wanted else f"wanted {wanted}"
 
-    def refused(self, number):
+    def refused(self, number: int) -> str:
         return self.registry.refused(number)
 
-    def refusal(self, asked):
+    def refusal(self, asked: Any) -> int | None:
         """The lowest number that a resolve or a check line is refused by."""
         needs, lock = asked["needs"], asked["lock"]
         premises = [it["need"] for row in asked.get("derivation", []) for it in row["causes"] if "need" in it]
@@ -213,11 +212,11 @@ class PlainSession:
                  (6, len(needs) > MOST_NEEDS)]
         return next((number for number, applies in tests if applies), None)
 
-    def judge(self, asked, kind=check_derivation.Judge):
+    def judge(self, asked: Any, kind: type[check_derivation.Judge] = check_derivation.Judge) -> check_derivation.Judge:
         return kind(self.judged,
                     {"op": "resolve", "needs": asked["needs"], "lock": asked["lock"], "explain": True, "budget": 0})
 
-    def checked(self, asked, reply):
+    def checked(self, asked: Any, reply: str) -> str | None:
         try:
             self.judge(asked).judge(asked["derivation"])
             follows = "true"
@@ -225,7 +224,7 @@ class PlainSession:
             follows = "false"
         return self.exactly(reply, f'{{"follows":{follows},"revision":{self.registry.revision}}}')
 
-    def resolved(self, asked, reply):
+    def resolved(self, asked: Any, reply: str) -> str | None:
         needs, lock, revision = asked["needs"], asked["lock"], self.registry.revision
         preferred = self.published.preferred_selection(needs, lock)
         if preferred is not None and self.published.is_lawful(preferred, needs, lock):
@@ -255,6 +254,6 @@ class PlainSession:
             return f"the derivation does not follow: {fault}"
         return None if len(found["explanation"]) == len(found["derivation"]) + 1 else "an explanation of other lines"
 
-    def told(self, said):
+    def told(self, said: Any) -> str:
         return json.dumps({**said, "revision": self.registry.revision}, sort_keys=True, separators=(",", ":"),
                           ensure_ascii=False)

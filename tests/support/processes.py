@@ -1,12 +1,13 @@
 """Processes that a test has begun by others: whether they work, and whether they have ended."""
 import os
 import time
+from collections.abc import Callable
 from pathlib import Path
 
 from tests.support.program import PATIENCE
 
 
-def comes(condition):
+def comes(condition: Callable[[], object]) -> object:
     """Whether this comes true in time."""
     until = time.monotonic() + PATIENCE
     while not condition() and time.monotonic() < until:
@@ -14,12 +15,12 @@ def comes(condition):
     return condition()
 
 
-def is_gone(process):
+def is_gone(process: int) -> object:
     """Whether a process has ended, or does so soon."""
     return comes(lambda: not os.path.exists(f"/proc/{process}/exe"))
 
 
-def child_of(process):
+def child_of(process: int) -> int:
     """The one child of a process, once it has begun."""
     children = Path(f"/proc/{process}/task/{process}/children")
     assert comes(lambda: children.read_text(encoding="ascii")), "no program was started"
@@ -27,28 +28,28 @@ def child_of(process):
     return int(children.read_text(encoding="ascii").split()[0])
 
 
-def is_idle(process):
+def is_idle(process: int) -> bool:
     """Whether a process uses no time, however long that is waited for."""
     before = used(process)
     return not comes(lambda: used(process) != before)
 
 
-def used(process):
+def used(process: int) -> int:
     """How much time a process has used, in the system's ticks."""
     return ticks(f"/proc/{process}/stat")
 
 
-def used_by_thread(process):
+def used_by_thread(process: int) -> dict[str, int]:
     """The same of each of its threads."""
     return {thread: ticks(f"/proc/{process}/task/{thread}/stat") for thread in os.listdir(f"/proc/{process}/task")}
 
 
-def ticks(path):
+def ticks(path: str) -> int:
     with open(path, encoding="utf-8", errors="replace") as file:
         return sum(map(int, file.read().rpartition(")")[2].split()[11:13]))
 
 
-def is_running(process):
+def is_running(process: int) -> bool:
     """Whether a process is there that has not ended, waited for or not."""
     try:
         with open(f"/proc/{process}/stat", encoding="utf-8", errors="replace") as file:

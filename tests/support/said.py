@@ -6,40 +6,44 @@ such a line was answered with, and one where there was none."""
 import os
 import pickle
 import re
+from collections.abc import Iterable, Sequence
 from pathlib import Path
+from typing import Any
 
 LAST = "test_written_lines.py"
 NUMBERS = re.compile(rb"[0-9]+(?:, ?[0-9]+)*")
 REFUSED = re.compile(rb'{"error":([0-9]+),')
-REQUESTS, REPLIES, JOURNAL = {}, {}, {}
-noted = set()  # the hashes of what was noted: many runs say the same
+REQUESTS: dict[Any, bytes] = {}
+REPLIES: dict[Any, bytes] = {}
+JOURNAL: dict[Any, bytes] = {}
+noted: set[tuple[int, ...]] = set()  # the hashes of what was noted: many runs say the same
 is_noting = True
 
 
-def lines_in(text):
+def lines_in(text: bytes) -> list[bytes]:
     """The lines of a text, whose last one may lack its line feed."""
     return (text[:-1] if text.endswith(b"\n") else text).split(b"\n") if text else []
 
 
-def alike(text):
+def alike(text: bytes) -> Iterable[tuple[bytes, bytes]]:
     """The lines of a text, for each a key that those have in common that differ in their numbers alone."""
     return zip(lines_in(NUMBERS.sub(b"0", text)), lines_in(text))
 
 
-def number_of(reply):
+def number_of(reply: bytes) -> int:
     """The number by which a reply refuses a line, 0 where it refuses none."""
     found = REFUSED.match(reply)
     return int(found[1]) if found else 0
 
 
-def is_new(*texts):
+def is_new(*texts: bytes) -> bool:
     """Whether these texts were not noted together before; from now on they are."""
     before = len(noted)
     noted.add(tuple(map(hash, texts)))
     return len(noted) > before
 
 
-def note_session(given, printed):
+def note_session(given: bytes, printed: bytes) -> None:
     """Keeps request lines and their replies, where each line has one."""
     if not is_new(given, printed):
         return
@@ -49,13 +53,13 @@ def note_session(given, printed):
         REQUESTS.update(((key, number_of(reply)), line) for (key, line), (_, reply) in zip(requests, replies))
 
 
-def note_journal(text):
+def note_journal(text: bytes) -> None:
     """Keeps the lines between the first and the last of a journal's text."""
     if is_new(text):
         JOURNAL.update(list(alike(text))[1:-1])
 
 
-def note_run(words, given, printed, folder=""):
+def note_run(words: Sequence[Any], given: bytes, printed: bytes, folder: Any = "") -> None:
     """Keeps what a run of the program in a folder said, which ended well."""
     if not is_noting:
         return
@@ -75,7 +79,7 @@ def note_run(words, given, printed, folder=""):
             note_journal(Path(path).read_bytes())
 
 
-def keep():
+def keep() -> None:
     """Keeps what this process has noted so far, for the last test; in one step, in the place of what it kept before."""
     if os.environ.get("SAID"):
         path = Path(os.environ["SAID"], str(os.getpid()))
@@ -84,7 +88,7 @@ def keep():
         os.replace(new, path)
 
 
-def take():
+def take() -> None:
     """Adds what other processes have kept to what was noted here."""
     for path in Path(os.environ["SAID"]).iterdir() if os.environ.get("SAID") else []:
         for lines, others in zip((REQUESTS, REPLIES, JOURNAL), pickle.loads(path.read_bytes())):
