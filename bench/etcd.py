@@ -21,7 +21,9 @@ import subprocess
 import sys
 import tempfile
 import time
+from collections.abc import Callable, Sequence
 from concurrent.futures import ThreadPoolExecutor
+from typing import Any
 
 from bench.lines import publish_lines
 from bench.measuring import write
@@ -38,7 +40,7 @@ ENTRIES = 3_000  # of the journal that is asked
 class Alone(fronts.Front):
     """The program, asked as a front is."""
 
-    def __init__(self, path):
+    def __init__(self, path: str) -> None:
         super().__init__([], 1)
         self.words = [program.PROGRAM, *program.SERVE, "--load", path]
         self.begin()
@@ -46,10 +48,10 @@ class Alone(fronts.Front):
 
 
 class Bench:
-    def __init__(self, members, seconds):
+    def __init__(self, members: Members, seconds: float) -> None:
         self.members, self.seconds, self.serial = members, seconds, 0
 
-    def opened(self, count, prefix, *more):
+    def opened(self, count: int, prefix: str, *more: str) -> list[fronts.Front]:
         """Fronts that each ask another member first, and have begun."""
         urls, made = self.members.clients, []
         for seat in range(1, count + 1):
@@ -58,13 +60,14 @@ class Bench:
             made[-1].ask(program.LIST)
         return made
 
-    def measure(self, asked, lines_of, together):
+    def measure(self, asked: Sequence[fronts.Front], lines_of: Callable[[int, int, int], list[str]],
+                together: int) -> tuple[float, float, float]:
         """Has each front asked as long as it is measured. Answers lines a second, and the milliseconds of a call:
         median, 99 of 100."""
         begun = time.perf_counter()
 
-        def client(number, front):
-            spent = []
+        def client(number: int, front: fronts.Front) -> list[float]:
+            spent: list[float] = []
             while time.perf_counter() < begun + self.seconds:
                 start, lines = time.perf_counter(), lines_of(number, len(spent) * together, together)
                 replies = front.send(lines)
@@ -76,13 +79,13 @@ class Bench:
         took, calls = time.perf_counter() - begun, sorted(it * 1000 for row in rows for it in row)
         return len(calls) * together / took, statistics.median(calls), calls[len(calls) * 99 // 100]
 
-    def founded(self):
+    def founded(self) -> str:
         self.serial += 1
         prefix = f"bench-{os.getpid()}-{self.serial}"
         assert fronts.run("found", self.members.clients, "--prefix", prefix).returncode == 0
         return prefix
 
-    def commands(self, count):
+    def commands(self, count: int) -> None:
         """Publications by so many fronts."""
         for together in (1, TOGETHER):
             made = self.opened(count, self.founded())
@@ -91,7 +94,7 @@ class Bench:
             for front in made:
                 front.end()
 
-    def filled(self):
+    def filled(self) -> tuple[str, list[str]]:
         """A journal of 3,000 publications of some 90 packages; answers its prefix and the packages' names."""
         prefix, lines = self.founded(), publish_lines(ENTRIES)
         front = self.opened(1, prefix)[0]
@@ -100,15 +103,15 @@ class Bench:
         front.end()
         return prefix, sorted({line.split('"name":"')[1].split('"')[0] for line in lines})
 
-    def resolves(self, counts):
+    def resolves(self, counts: Sequence[int]) -> None:
         """Resolve lines by so many fronts, by `--stale` ones, and by one beside the program: of each package, and of a
         few that need hardly any others."""
         prefix, names = self.filled()
         for what, some in ("each package", names), ("packages with few needs", names[:8]):
             for together in (1, TOGETHER, MANY):
-                def lines_of(number, at, many):
+                def lines_of(number: int, at: int, many: int) -> list[str]:
                     return [program.resolve(f"{some[(it * 7 + number) % len(some)]} *") for it in range(at, at + many)]
-                for count, words in itertools.product(counts, ([], ["--stale"])):
+                for count, words in itertools.product(counts, ((), ("--stale",))):
                     made = self.opened(count, prefix, *words)
                     said = f"{' '.join([f'{count} fronts', *words])}, {together} at once, {what}: "
                     if together < MANY:
@@ -118,7 +121,8 @@ class Bench:
                     for front in made:
                         front.end()
 
-    def beside(self, front, prefix, lines_of, together):
+    def beside(self, front: fronts.Front, prefix: str, lines_of: Callable[[int, int, int], list[str]],
+               together: int) -> str:
         """Asks a front and the program without one the same lines in turn, and tells how many times as long the front
         takes."""
         with tempfile.NamedTemporaryFile() as file:
@@ -126,9 +130,10 @@ class Bench:
             file.flush()
             alone = Alone(file.name)
         cells = Cells(Gateway(endpoints(self.members.clients[0])), prefix)
-        asked = (lambda lines: at_once(front, lines), lambda lines: at_once(alone, lines),
-                 lambda _: next(cells.pages(Cell(ENTRIES, None, None))))
-        spent, at, end = ([], [], []), 0, time.perf_counter() + self.seconds
+        asked: tuple[Callable[[list[str]], object], ...] = (
+            lambda lines: at_once(front, lines), lambda lines: at_once(alone, lines),
+            lambda _: next(cells.pages(Cell(ENTRIES, None, None))))
+        spent, at, end = (list[float](), list[float](), list[float]()), 0, time.perf_counter() + self.seconds
         while time.perf_counter() < end:
             lines = lines_of(0, at, together)
             for ask, times in zip(asked, spent):
@@ -142,7 +147,7 @@ class Bench:
                 f"same in turn: {of_front / of_program:.2f} times, "
                 f"and {sum(spent[0]) / sum(spent[1]):.2f} times over all; a read alone {of_read:.2f} ms")
 
-    def catching_up(self, entries):
+    def catching_up(self, entries: int) -> None:
         """A new front, where so many entries stand."""
         prefix, lines = self.founded(), publish_lines(entries)
         front = self.opened(1, prefix, "--compact-every", "0")[0]
@@ -161,12 +166,12 @@ class Bench:
             print(f"the program alone loads them in {time.perf_counter() - start:.2f} s", flush=True)
 
 
-def published(number, at, many):
+def published(number: int, at: int, many: int) -> list[str]:
     """So many publications of a client."""
     return [program.publish(f"p{number}-{at // 4000}", f"1.{minor}.0") for minor in range(at, at + many)]
 
 
-def at_once(front, lines):
+def at_once(front: fronts.Front, lines: list[str]) -> None:
     """Sends all lines before the first reply is read: a pipe and a front hold them."""
     front.child.stdin.write("".join(line + "\n" for line in lines))
     front.child.stdin.flush()
@@ -174,18 +179,18 @@ def at_once(front, lines):
         assert front.child.stdout.readline().endswith("\n")
 
 
-def timed(what, *words):
+def timed(what: str, *words: Any) -> None:
     start = time.perf_counter()
     ended = fronts.run(*words, given=program.LIST.encode())
     assert ended.returncode == 0, ended.stderr
     print(f"{what}: {time.perf_counter() - start:.2f} s", flush=True)
 
 
-def tell(what, told):
+def tell(what: str, told: tuple[float, float, float]) -> None:
     print(f"{what} {told[0]:.0f} a second, a call {told[1]:.2f} ms, 99 of 100 within {told[2]:.2f} ms", flush=True)
 
 
-def raced(count, lines=4000):
+def raced(count: int, lines: int = 4000) -> None:
     """What a race of so many files accepts a second."""
     with tempfile.TemporaryDirectory() as folder:
         paths = [os.path.join(folder, str(number)) for number in range(count)]
@@ -195,7 +200,7 @@ def raced(count, lines=4000):
     print(f"a race of {count} files: accepted {count * lines / spent:.0f} a second", flush=True)
 
 
-def main():
+def main() -> None:
     parser = argparse.ArgumentParser(description=__doc__, formatter_class=argparse.RawDescriptionHelpFormatter)
     parser.add_argument("--fronts", type=int, nargs="+", default=[1, 3, 10])
     parser.add_argument("--seconds", type=float, default=5.0)

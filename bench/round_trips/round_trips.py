@@ -3,12 +3,13 @@ import json
 import socket
 import sys
 import time
+from collections.abc import Iterable, Iterator, Sequence
 from pathlib import Path
 
 from registryd import Line, Registry
 
 
-def by_client(registry, file, trips, lines):
+def by_client(registry: Registry, file: str, trips: int, lines: Iterable[str]) -> Iterator[object]:
     for future in registry.many(map(Line, Path(file).read_bytes().splitlines())):
         future.result()
     for line in lines:
@@ -21,7 +22,7 @@ def by_client(registry, file, trips, lines):
     registry.close()
 
 
-def by_socket(path, file, trips, lines):
+def by_socket(path: str, file: str, trips: int, lines: Iterable[str]) -> Iterator[object]:
     with socket.socket(socket.AF_UNIX) as channel:
         channel.connect(path)
         replies = channel.makefile("rb")
@@ -40,7 +41,7 @@ def by_socket(path, file, trips, lines):
                 yield time.perf_counter_ns() - begun
 
 
-def main(words):
+def main(words: Sequence[str]) -> None:
     way, target, file, trips, *lines = words
     if way == "socket":
         told = by_socket(target, file, int(trips), lines)

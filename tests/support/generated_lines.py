@@ -1,6 +1,8 @@
 """Tables that are too long to be kept, or have bytes that a text can't: a function makes each, and its name and its
 first line say what it shows. A row is a request line in bytes, without its line feed, and its reply."""
 import json
+from collections.abc import Iterable, Iterator
+from typing import Any
 
 from registry_cli.limits import (
     MOST_COMMANDS, MOST_LINE_BYTES, MOST_NAME_BYTES, MOST_NEEDS, MOST_PACKAGES, MOST_REQUIREMENT_BYTES,
@@ -12,21 +14,21 @@ EMPTY = '{"packages":[],"revision":0}'
 BAD_LINE = '{"error":19,"name":"BadLine","revision":0}'
 
 
-def accepted(lines, revision=0):
+def accepted(lines: Iterable[bytes], revision: int = 0) -> list[tuple[bytes, str]]:
     """Each of these lines is accepted, from this revision on."""
     return [(line, '{"ok":true,"revision":%d}' % number) for number, line in enumerate(lines, revision + 1)]
 
 
-def compact(value):
+def compact(value: Any) -> bytes:
     return json.dumps(value, separators=(",", ":")).encode()
 
 
-def long_version(number):
+def long_version(number: int) -> str:
     """A version whose text has some 250 bytes, of at most 256."""
     return f"{number}.0.0-{number:0240}x"
 
 
-def lines_at_the_limit_of_their_length():
+def lines_at_the_limit_of_their_length() -> Iterator[tuple[bytes, str]]:
     """A line of the most bytes is read, one byte more is too much, and the line behind it is read again."""
     for line, reply in ((LIST.rjust(MOST_LINE_BYTES), EMPTY), (LIST.ljust(MOST_LINE_BYTES), EMPTY),
                         (LIST.rjust(MOST_LINE_BYTES + 1), BAD_LINE),
@@ -35,7 +37,7 @@ def lines_at_the_limit_of_their_length():
         yield LIST, EMPTY
 
 
-def values_in_one_another():
+def values_in_one_another() -> Iterator[tuple[bytes, str]]:
     """The object and 126 arrays in one another nest 127 deep, which is read where a later member of the name counts."""
     for depth, reply in ((126, EMPTY), (127, BAD_LINE), (200, BAD_LINE)):
         yield b'{"op":' + b"[" * depth + b"]" * depth + b',"op":"list"}', reply
@@ -43,9 +45,9 @@ def values_in_one_another():
     yield b"[" * 200 + b"]" * 200, BAD_LINE
 
 
-def needs_past_the_most_of_a_publication():
+def needs_past_the_most_of_a_publication() -> Iterator[tuple[bytes, str]]:
     """All needs of a publication are judged, however many there are: their names, then their requirements."""
-    def line(name, requirement):
+    def line(name: str, requirement: str) -> bytes:
         needs = [[f"b{number}", "^1"] for number in range(MOST_NEEDS + 1)] + [[name, requirement]]
         return compact({"op": "publish", "name": "a", "version": "1.0.0", "needs": needs})
 
@@ -57,9 +59,9 @@ def needs_past_the_most_of_a_publication():
     yield line("a", "^1"), '{"error":5,"name":"SelfDependency","revision":0}'
 
 
-def needs_past_the_most_of_a_request():
+def needs_past_the_most_of_a_request() -> Iterator[tuple[bytes, str]]:
     """Of a request too all needs are judged, those past the most that it may have among them."""
-    def line(count, name, requirement):
+    def line(count: int, name: str, requirement: str) -> bytes:
         return compact({"op": "resolve", "needs": [[f"b{number}", "^1"] for number in range(count)]
                         + [[name, requirement]]})
 
@@ -72,7 +74,7 @@ def needs_past_the_most_of_a_request():
     yield line(more, "B", "none"), '{"error":1,"name":"BadName","revision":0}'
 
 
-def a_selection_longer_than_the_room_of_replies():
+def a_selection_longer_than_the_room_of_replies() -> Iterator[tuple[bytes, str]]:
     """A selection of 270 packages, each with a long version, is told whole."""
     names = [f"a{number}" for number in range(270)]
     # each but the last needs the next one
@@ -86,12 +88,12 @@ def a_selection_longer_than_the_room_of_replies():
     yield compact({"op": "resolve", "needs": [["a0", ">=0.0.0-0"]]}), reply
 
 
-def the_most_versions_and_dependencies():
+def the_most_versions_and_dependencies() -> Iterator[tuple[bytes, str]]:
     """A package has as many versions as it may have, and a version as many dependencies; one more is refused."""
-    def line(name, version, needs):
+    def line(name: str, version: str, needs: int) -> bytes:
         return publish(name, version, [f"d{number} *" for number in range(needs)]).encode()
 
-    def refused(number, name):
+    def refused(number: int, name: str) -> str:
         return f'{{"error":{number},"name":"{name}","revision":{MOST_VERSIONS}}}'
 
     yield from accepted([line("a", f"{number}.0.0", 0) for number in range(MOST_VERSIONS)])
@@ -101,10 +103,10 @@ def the_most_versions_and_dependencies():
     yield from accepted([line("b", "0.0.0", MOST_NEEDS)], MOST_VERSIONS)
 
 
-def the_most_names_of_packages():
+def the_most_names_of_packages() -> Iterator[tuple[bytes, str]]:
     """As many names are numbered as may be, those that are only needed among them: one that would number more is
     refused."""
-    def line(name, needs):
+    def line(name: str, needs: int) -> bytes:
         return publish(name, "1.0.0", [f"{name}-{number} ^1" for number in range(needs)]).encode()
 
     # of 65,535 names 1,008 lines of 1 + 64 take 65,520, and 15 are left
@@ -116,7 +118,7 @@ def the_most_names_of_packages():
     yield from accepted([line("p5-3", 0)], lines + 1)
 
 
-def the_most_commands_of_a_session():
+def the_most_commands_of_a_session() -> Iterator[tuple[bytes, str]]:
     """As many commands are accepted as may be, here a publication that is yanked and restored. Then none is, and a
     refusal of a lower number is told before that."""
     turns = [yank("a", "1.0.0").encode(), unyank("a", "1.0.0").encode()]
@@ -129,20 +131,21 @@ def the_most_commands_of_a_session():
         yield line.encode(), full.replace('10,"name":"JournalFull"', lower)
 
 
-def refused_by(conflicts, published, needs):
+def refused_by(conflicts: int, published: list[str], needs: list[str]) -> Iterator[tuple[bytes, str]]:
     """After these publications, a request that meets so many conflicts is refused by that budget, and not by a lower
     one. The lower ones come first, since an answer would spare the next ones a conflict."""
     yield from accepted([line.encode() for line in published])
     revision = len(published)
     spent = '{"error":22,"name":"BudgetSpent","revision":%d}' % revision
     refused = '{"refused":true,"revision":%d}' % revision
+    budget: int | None
     for budget in range(conflicts):
         yield resolve(*needs, budget=budget).encode(), spent
     for budget in (conflicts, 4_294_967_295, None):
         yield resolve(*needs, budget=budget).encode(), refused
 
 
-def beside(count, *published):
+def beside(count: int, *published: str) -> tuple[list[str], list[str]]:
     """Publications of so many packages, each in two versions, and these; and needs on them, on `x` and on `t`."""
     names = [f"p{number}" for number in range(1, count + 1)]
     packages = [publish(name, version) for name in names for version in ("1.0.0", "1.1.0")]
@@ -150,25 +153,25 @@ def beside(count, *published):
             publish("t", "2.0.0")], [*(f"{name} *" for name in names), "x *", "t ^1.0.0"]
 
 
-def a_conflict_that_goes_back_over_many_decisions():
+def a_conflict_that_goes_back_over_many_decisions() -> Iterator[tuple[bytes, str]]:
     """The first conflict is on `y` and goes back to the first level, the second is on `x` and ends the search."""
     yield from refused_by(2, *beside(40, publish("x", "1.0.0", ["y *"]), publish("x", "1.1.0", ["y *"]),
                                      publish("y", "1.0.0", ["t ^2.0.0"])))
 
 
-def of_four_versions(*needs):
+def of_four_versions(*needs: str) -> list[str]:
     """Four versions of `x`, which have these needs, and of `y`."""
     return [*(publish("x", f"1.{minor}.0", [need]) for minor, need in enumerate(needs)),
             *(publish("y", f"1.{minor}.0", ["t ^2.0.0"]) for minor in range(4))]
 
 
-def what_many_versions_have_in_common_waits_for_no_decision():
+def what_many_versions_have_in_common_waits_for_no_decision() -> Iterator[tuple[bytes, str]]:
     """With four versions of `x` and of `y` each, what they need follows at once, so the first conflict ends the
     search."""
     yield from refused_by(1, *beside(8, *of_four_versions("y *", "y *", "y *", "y *")))
 
 
-def budgets_in_other_words():
+def budgets_in_other_words() -> Iterator[tuple[bytes, str]]:
     """Where the highest version needs something else, `x` is decided, and the search goes back: a budget of two
     conflicts serves in whatever words it is told, and a budget of one is spent."""
     published, needs = beside(8, *of_four_versions("y *", "y *", "y *", "y >=1.0.0"))
@@ -186,7 +189,7 @@ def budgets_in_other_words():
     yield b'{%s,"lock":[]}' % rest, refused
 
 
-def texts_at_the_limits_of_their_lengths():
+def texts_at_the_limits_of_their_lengths() -> Iterator[tuple[bytes, str]]:
     """A name, a version and a requirement have at most so many bytes, and a requirement at most so many comparators."""
     name, version, need = "a".ljust(MOST_NAME_BYTES,
                                     "b"), "1.0.0-".ljust(MOST_VERSION_BYTES,
@@ -203,7 +206,7 @@ def texts_at_the_limits_of_their_lengths():
         yield line.encode(), '{"error":%d,"name":"%s","revision":2}' % (number, told)
 
 
-def a_chain_of_packages():
+def a_chain_of_packages() -> Iterator[tuple[bytes, str]]:
     """A chain of 10,000 packages, each of which needs the next, is selected once its last package is published."""
     count = 10_000
     names = [f"p{number}" for number in range(count)]
@@ -214,17 +217,17 @@ def a_chain_of_packages():
                                              "selected": sorted([name, "1.0.0"] for name in names)}).decode()
 
 
-def a_chain_that_is_searched():
+def a_chain_that_is_searched() -> Iterator[tuple[bytes, str]]:
     """The newest version of each link asks for a version that is not there, so that no preference serves."""
     count = 2_000
     links = [(f"n{k}", "1.0.0", [f"n{k + 1} ^1"] if k + 1 < count else []) for k in range(count)]
-    yield from accepted([line.encode() for name, *link in links
-                         for line in (publish(name, *link), publish(name, "1.1.0", ["gone ^1"]))])
+    yield from accepted([line.encode() for name, version, needs in links
+                         for line in (publish(name, version, needs), publish(name, "1.1.0", ["gone ^1"]))])
     chosen = sorted([name, "1.0.0"] for name, *_ in links)
     yield resolve("n0 *").encode(), compact({"revision": 2 * count, "selected": chosen}).decode()
 
 
-def a_megabyte_of_needs():
+def a_megabyte_of_needs() -> Iterator[tuple[bytes, str]]:
     """Of as many needs as a line has room for, one that repeats a name is found, wherever it stands."""
     needs = [["%x" % (number + 0xa00000), "1"] for number in range(70_000)]
     needs = needs[:int(len(needs) * (MOST_LINE_BYTES - 100) / len(compact(needs)))]
@@ -243,7 +246,7 @@ SESSIONS = [lines_at_the_limit_of_their_length, values_in_one_another, needs_pas
             what_many_versions_have_in_common_waits_for_no_decision]
 
 
-def sessions():
+def sessions() -> Iterator[tuple[str, str, list[tuple[bytes, str]]]]:
     """The name, the title and the rows of each table."""
     for table in SESSIONS:
-        yield table.__name__, " ".join(table.__doc__.split()), list(table())
+        yield table.__name__, " ".join(str(table.__doc__).split()), list(table())

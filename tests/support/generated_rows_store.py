@@ -2,6 +2,9 @@
 
 A table is a title and its rows; a row's member `gives` is what the call is wanted to answer. What was learnt is stored
 by a seat."""
+from collections.abc import Iterator
+from typing import Any
+
 from registry_cli.limits import MOST_STORED
 from tests.support.generated_rows import pairs, premise, row, tables
 
@@ -9,43 +12,43 @@ from tests.support.generated_rows import pairs, premise, row, tables
 class Steps:
     """Steps of one seat, with what each is to give. Each entry takes a place, a command raises the revision."""
 
-    def __init__(self):
-        self.steps, self.gives, self.place, self.revision = [], [], 0, 0
+    def __init__(self) -> None:
+        self.steps, self.gives, self.place, self.revision = list[list[Any]](), list[Any](), 0, 0
 
-    def step(self, name, gives, *given):
+    def step(self, name: str, gives: Any, *given: Any) -> None:
         self.steps.append([1, name, *given])
         self.gives.append(gives)
 
-    def enter(self, kind, given, refused=None):
+    def enter(self, kind: str, given: dict[str, Any], refused: dict[str, int] | None = None) -> None:
         if not refused:
             self.place += 1
             self.revision += kind != "learn"
         self.step(kind, refused or [self.place, self.revision], given)
 
-    def publish(self, name, version, *needs):
+    def publish(self, name: str, version: str, *needs: str) -> None:
         self.enter("publish", {"name": name, "version": version, "needs": pairs(needs)})
 
-    def learn(self, line, refused=None):
+    def learn(self, line: dict[str, Any], refused: dict[str, int] | None = None) -> None:
         self.enter("learn", {"lines": [line]}, refused)
 
-    def rows(self):
+    def rows(self) -> list[dict[str, Any]]:
         return [row("chronicle", "steps", self.gives, capacity=8192, seats=[1, 2], steps=self.steps)]
 
 
-def _line(*within):
+def _line(*within: int) -> dict[str, Any]:
     """That a needs b, and b needs c: b is package 2 and c is package 3."""
     return {"conclusion": [[1, {"in": [0]}], [3, {"not": list(within)}]],
             "causes": [premise(1, 2, [0]), premise(2, 3, list(within))], "pivot": 2}
 
 
-def _own_line(k, *within):
+def _own_line(k: int, *within: int) -> dict[str, Any]:
     """A member that rests on a package of its own, 2k + 5, which package 2k + 4 needs."""
     fact = premise(2 * k + 4, 2 * k + 5, list(within))
     conclusion = [[2 * k + 4, {"in": [0]}], [2 * k + 5, {"not": list(within)}]]
     return {"conclusion": conclusion, "causes": [fact, fact], "pivot": 2 * k + 5}
 
 
-def _chain():
+def _chain() -> Steps:
     """a needs b, b needs c, each ^1."""
     steps = Steps()
     for line in (("a", "1.0.0", "b ^1.0.0"), ("b", "1.0.0", "c ^1.0.0"), ("c", "1.0.0")):
@@ -54,7 +57,7 @@ def _chain():
 
 
 @tables
-def a_seat_stores_at_most_4096():
+def a_seat_stores_at_most_4096() -> Iterator[tuple[str, list[dict[str, Any]]]]:
     """A learnt entry takes a place and raises no revision."""
     steps = _chain()
     for k in range(1, MOST_STORED + 1):
@@ -70,7 +73,7 @@ def a_seat_stores_at_most_4096():
 
 
 @tables
-def members_go_and_come_one_by_one():
+def members_go_and_come_one_by_one() -> Iterator[tuple[str, list[dict[str, Any]]]]:
     """Each member rests on a package of its own, and is found by it, also once others have gone."""
     count, steps = 1024, _chain()
     for k in range(count + 1):

@@ -5,6 +5,8 @@ be.
 What answers is called with lines, as values, and a number of workers, and answers reply lines."""
 import json
 import random
+from collections.abc import Callable, Iterable
+from typing import Any
 
 from tests.support.small_registries import Maker
 
@@ -13,19 +15,20 @@ NO_REQUEST = {"op": "end of a batch"}
 WORKERS = (1, 1, 2, 3, 4, 8)
 
 
-def bodies(replies):
+def bodies(replies: Iterable[str]) -> list[str]:
     """What replies say, without the revision."""
     return [json.dumps({name: it for name, it in json.loads(reply).items() if name != "revision"}) for reply in replies]
 
 
-def selected(reply):
+def selected(reply: str) -> Any:
     return json.loads(reply).get("selected")
 
 
-def orders(commands, requests, serve, ways=100, seed=0):
+def orders(commands: list[Any], requests: list[Any], serve: Callable[[list[Any], int], list[str]], ways: int = 100,
+           seed: int = 0) -> list[str]:
     """The same requests in so many ways: in other orders, cut into batches elsewhere, by other numbers of workers, each
     alone or some of them, behind requests that are none of them. Each has the same reply, byte for byte."""
-    rng, first, found = random.Random(seed), {}, []
+    rng, first, found = random.Random(seed), dict[int, str](), []
     for way in range(ways):
         asked = list(range(len(requests)))
         if way:
@@ -44,12 +47,12 @@ def orders(commands, requests, serve, ways=100, seed=0):
     return found
 
 
-def case_of(seed):
+def case_of(seed: int) -> tuple[list[Any], Any]:
     maker = Maker(random.Random(seed))
     return maker.commands(), maker.request()
 
 
-def yanks(seeds, serve):
+def yanks(seeds: Iterable[int], serve: Callable[[list[Any], int], list[str]]) -> list[str]:
     """A yank of a version that is not selected changes nothing, nor does it where the yank is undone."""
     found = []
     for seed in seeds:
@@ -59,7 +62,7 @@ def yanks(seeds, serve):
             continue
         published, yanked = ({(it["name"], it["version"]) for it in commands if it["op"] == op}
                              for op in ("publish", "yank"))
-        others = sorted(published - yanked - {tuple(it) for it in selected(before)})
+        others = sorted(published - yanked - {(name, version) for name, version in selected(before)})
         for name, version in random.Random(seed).sample(others, min(2, len(others))):
             yank = {"op": "yank", "name": name, "version": version}
             replies = serve([*commands, request, yank, request, {**yank, "op": "unyank"}, request], 1)
@@ -69,7 +72,7 @@ def yanks(seeds, serve):
     return found
 
 
-def publications(seeds, serve):
+def publications(seeds: Iterable[int], serve: Callable[[list[Any], int], list[str]]) -> list[str]:
     """A publication changes the answer to a selection that has the new version, and to no other."""
     found = []
     for seed in seeds:

@@ -3,6 +3,7 @@ session and the plain journal that stand beside. It shares nothing with the prog
 import json
 import os
 from collections import defaultdict
+from collections.abc import Iterable, Sequence
 from functools import lru_cache
 
 from tests.support.plain_journal import Replay
@@ -13,14 +14,14 @@ FIRST = "registry-journal 2"
 
 
 @lru_cache(maxsize=10_000)
-def stamped(reply, place, seat):
+def stamped(reply: str, place: int, seat: int) -> str:
     """A reply as a seat of a race gives it, at this place."""
     return json.dumps({**json.loads(reply), "place": place, "seat": seat}, sort_keys=True, separators=(",", ":"),
                       ensure_ascii=False)
 
 
 @lru_cache(maxsize=10_000)
-def unstamped(reply, place, seat):
+def unstamped(reply: str, place: int, seat: int) -> str:
     """The reply of a seat of a race as a session gives it; unchanged where it is not written as it has to be."""
     members = {name: value for name, value in json.loads(reply).items() if name not in ("place", "seat")}
     bare = json.dumps(members, separators=(",", ":"), ensure_ascii=False)
@@ -31,7 +32,7 @@ class RaceFault(Exception):
     """Why a race may not have printed this."""
 
 
-def demand(holds, told):
+def demand(holds: object, told: str) -> None:
     if not holds:
         raise RaceFault(told)
 
@@ -39,7 +40,7 @@ def demand(holds, told):
 class Told:
     """A line of a file with its reply."""
 
-    def __init__(self, seat, line, reply):
+    def __init__(self, seat: int, line: bytes, reply: str) -> None:
         self.seat, self.line = seat, line
         members = read_json(reply.encode())
         demand(isinstance(members, dict) and type(members.get("place")) is int and members.get("seat") == seat,
@@ -47,12 +48,12 @@ class Told:
         self.place, self.is_own = members["place"], '"ok"' in reply
         self.reply = unstamped(reply, self.place, seat)
 
-    def asked(self, most):
+    def asked(self, most: int) -> str:
         """The line as far as it is told."""
         return self.line[:most].decode(errors="replace")
 
 
-def written(folder, files):
+def written(folder: str, files: Sequence[Iterable[bytes]]) -> list[str]:
     """The paths of files in a folder that have these lines."""
     paths = [os.path.join(folder, f"lines{number}") for number in range(len(files))]
     for path, lines in zip(paths, files):
@@ -61,14 +62,14 @@ def written(folder, files):
     return paths
 
 
-def told_in(files, lines):
+def told_in(files: Sequence[Sequence[bytes]], lines: Sequence[str]) -> list[Told]:
     """The lines of these files with their replies, which stand in a row."""
     demand(len(lines) >= sum(map(len, files)), "a line has no reply")
     replies = iter(lines)
     return [Told(seat, line, next(replies)) for seat, asked in enumerate(files, 1) for line in asked]
 
 
-def judge(files, printed, plain=None):
+def judge(files: Sequence[Sequence[bytes]], printed: str, plain: PlainSession | None = None) -> int:
     """Judges what a race of these files, each a list of lines in bytes, printed; answers how many entries there are."""
     lines = printed.split("\n")
     demand(lines.pop() == "", "the last line is not ended")
@@ -80,9 +81,9 @@ def judge(files, printed, plain=None):
     return len(lines) - 2
 
 
-def judge_replies(told, plain=None):
+def judge_replies(told: Sequence[Told], plain: PlainSession | None = None) -> dict[int, Told]:
     """Judges each reply after the commands that were accepted before its place; answers these, by place."""
-    plain, seen, own = plain or PlainSession(), defaultdict(int), {}
+    plain, seen, own = plain or PlainSession(), defaultdict[int, int](int), {}
     for it in told:
         # a seat loses nothing that it has seen, and what it enters comes after that
         demand(seen[it.seat] + it.is_own <= it.place,
@@ -98,7 +99,7 @@ def judge_replies(told, plain=None):
     return own
 
 
-def stand(entries, told, own):
+def stand(entries: Sequence[str], told: Iterable[Told], own: dict[int, Told]) -> None:
     """Each entry of the journal is the command that is told as accepted there, or what was learnt."""
     journal = Replay()
     demand(all(it.place <= len(entries) for it in told), "a reply is of a place behind the journal's end")
@@ -108,5 +109,5 @@ def stand(entries, told, own):
         demand(not (is_learnt and found),
                f"at place {place} a command is told as accepted, and what was learnt stands there")
         demand(is_learnt or found, f"no seat was told that its command stands at place {place}")
-        demand(is_learnt or journal_line(found.line.decode()) == entry,
+        demand(is_learnt or found and journal_line(found.line.decode()) == entry,
                f"at place {place} stands {entry[:500]}, told {found and found.asked(500)}")

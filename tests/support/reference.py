@@ -1,7 +1,9 @@
 """The rules of the registry once more, in plain Python that shares nothing with
 the program: what each line is answered, and what it changes."""
 import re
+from collections.abc import Container
 from functools import lru_cache
+from typing import Any
 
 from registry_cli.limits import MOST_NAME_BYTES, MOST_NEEDS, MOST_PACKAGES, MOST_VERSION_BYTES, MOST_VERSIONS
 
@@ -17,7 +19,7 @@ REFUSALS = {1: "BadName", 2: "BadVersion", 3: "BadRequirement", 4: "RepeatedDepe
 
 
 @lru_cache(maxsize=100_000)
-def precedence(text):
+def precedence(text: str) -> Any:
     """The version without its build metadata: equal for versions of equal precedence. None for no version."""
     found = VERSION.fullmatch(text)
     if not found or len(text) > MOST_VERSION_BYTES or any(int(number) >= 2 ** 64 for number in found.groups()[:3]):
@@ -26,12 +28,12 @@ def precedence(text):
 
 
 class Registry:
-    def __init__(self):
-        self.names = []  # in order of first mention
-        self.versions = {}  # by name: [text, precedence, whether it is yanked]
+    def __init__(self) -> None:
+        self.names: list[str] = []  # in order of first mention
+        self.versions: dict[str, list[list[Any]]] = {}  # by name: [text, precedence, whether it is yanked]
         self.revision = 0
 
-    def refusal(self, request, requirements):
+    def refusal(self, request: Any, requirements: Container[str]) -> int | None:
         """The lowest refusal that applies to a request of the right shape, or none."""
         if request["op"] == "list":
             return None
@@ -55,7 +57,7 @@ class Registry:
                      (13, request["op"] == "unyank" and found and not found[0][2])]
         return next((number for number, applies in tests if applies), None)
 
-    def apply(self, request):
+    def apply(self, request: Any) -> None:
         name = request["name"]
         if request["op"] == "publish":
             for mentioned in [name, *(need[0] for need in request["needs"])]:
@@ -69,10 +71,10 @@ class Registry:
                     row[2] = request["op"] == "yank"
         self.revision += 1
 
-    def refused(self, number):
+    def refused(self, number: int) -> str:
         return f'{{"error":{number},"name":"{REFUSALS[number]}","revision":{self.revision}}}'
 
-    def answer(self, request, requirements):
+    def answer(self, request: Any, requirements: Container[str]) -> str:
         """The reply to a request of the right shape; an accepted command is carried out."""
         number = self.refusal(request, requirements)
         if number:

@@ -7,6 +7,7 @@ import dataclasses
 import glob
 import os
 import re
+from collections.abc import Collection, Container, Iterator, Mapping
 
 WORD = r"[A-Za-z_]\w*"
 FUNCTION = re.compile(
@@ -31,22 +32,22 @@ class Function:
     is_public: bool
 
     @property
-    def crate(self):
+    def crate(self) -> str:
         return self.path.partition(os.sep)[0]
 
     @property
-    def full_name(self):
+    def full_name(self) -> str:
         return "::".join(part for part in (self.crate, self.owner, self.name) if part)
 
 
-def blocks(text):
+def blocks(text: str) -> Iterator[tuple[int, int, str]]:
     """Each block of an `impl` or a `trait`: where it begins, where it ends, and whose it is."""
     for found in OWNER.finditer(text):
         end = text.find("\n}", found.end())
         yield found.start(), len(text) if end < 0 else end, found["type"] or found["trait"]
 
 
-def functions_of(path, text):
+def functions_of(path: str, text: str) -> Iterator[tuple[Function, str]]:
     """Each function of a source, with the text from its name to the next function."""
     owners = list(blocks(text))
     found = list(FUNCTION.finditer(text))
@@ -56,13 +57,13 @@ def functions_of(path, text):
         yield function, text[one.end():after.start() if after else len(text)]
 
 
-def imports_of(text, crates):
+def imports_of(text: str, crates: Container[str]) -> dict[str, str]:
     """The crate of each name that a source imports from another one of these."""
     return {name.strip(): found[1] for found in IMPORT.finditer(text) if found[1] in crates
             for name in (found[2] or found[3]).split(",") if name.strip()}
 
 
-def calls_in(body, own):
+def calls_in(body: str, own: str) -> Iterator[tuple[bool, str, str]]:
     """What a function's text calls or hands over: whether as a method, of which owner, and by which name."""
     for call in CALL.finditer(body):
         yield bool(call["dot"]), own if call["owner"] == "Self" else call["owner"] or "", call["name"]
@@ -70,7 +71,7 @@ def calls_in(body, own):
         yield False, own if handed["owner"] == "Self" else handed["owner"], handed["name"]
 
 
-def sources_below(top):
+def sources_below(top: str) -> dict[str, str]:
     """The text of each source below a folder's `crates`, by its path there."""
     texts = {}
     for path in sorted(glob.glob(os.path.join(top, "crates", "*", "src", "**", "*.rt"), recursive=True)):
@@ -79,7 +80,7 @@ def sources_below(top):
     return texts
 
 
-def is_law(body):
+def is_law(body: str) -> bool:
     """Whether a function is a statement alone: it takes nothing, answers nothing, and so does nothing."""
     return bool(re.match(r"(?:<[^()]*>)?\(\)\s*(?:$|[^-\s])", body))
 
@@ -87,8 +88,8 @@ def is_law(body):
 class Sources:
     """All functions of these sources, and what each of them may call."""
 
-    def __init__(self, texts):
-        self.named = collections.defaultdict(set)
+    def __init__(self, texts: Mapping[str, str]) -> None:
+        self.named: collections.defaultdict[str, set[Function]] = collections.defaultdict(set)
         texts = {path: SILENT.sub("", text) for path, text in texts.items()}
         bodies = {function: body for path, text in texts.items() for function, body in functions_of(path, text)}
         self.laws = {function for function, body in bodies.items() if is_law(body)}
@@ -100,7 +101,8 @@ class Sources:
                                               for call in calls_in(body, function.owner)))
                       for function, body in bodies.items()}
 
-    def meant(self, caller, imports, is_method, owner, name):
+    def meant(self, caller: Function, imports: Mapping[str, str], is_method: bool, owner: str,
+              name: str) -> set[Function]:
         """The functions that a call in a function may mean."""
         there = self.named.get(name, set())
         if is_method:
@@ -114,7 +116,7 @@ class Sources:
         own = {one for one in found if one.path == caller.path}
         return own if own and not owner else found
 
-    def reached(self, roots):
+    def reached(self, roots: Collection[Function]) -> set[Function]:
         """All functions to which the roots lead, they among them."""
         found, waiting = set(roots), list(roots)
         while waiting:
@@ -123,7 +125,7 @@ class Sources:
             waiting += more
         return found
 
-    def find(self, said):
+    def find(self, said: str) -> set[Function]:
         """The functions that a page names as `name` or `Type::name`."""
         owner, _, name = said.rpartition("::")
         return {one for one in self.named.get(name, set()) if not owner or one.owner == owner}

@@ -3,4 +3,4 @@ import re
 
 from tests.support.program import read
 
-TEACHING = int(re.search(r"\*\*A refusal\*\* of at most (\d+) steps", read("docs", "SOLVER.md"))[1])
+TEACHING = int(re.findall(r"\*\*A refusal\*\* of at most (\d+) steps", read("docs", "SOLVER.md"))[0])

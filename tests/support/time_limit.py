@@ -2,10 +2,11 @@
 import contextlib
 import os
 import signal
+from collections.abc import Iterator
 from pathlib import Path
 
 
-def children(process=None):
+def children(process: int | None = None) -> Iterator[int]:
     """The processes that this one has started, or another one, and that have not ended."""
     for path in Path("/proc").glob("[0-9]*/stat"):
         with contextlib.suppress(OSError):
@@ -16,10 +17,10 @@ def children(process=None):
 
 
 @contextlib.contextmanager
-def limited(seconds):
+def limited(seconds: float) -> Iterator[None]:
     """A test that waits for more than so many seconds meanwhile fails, and what it has started is ended: so a program
     that never replies hangs no test."""
-    def break_off(*_):
+    def break_off(*_: object) -> None:
         signal.setitimer(signal.ITIMER_REAL, 0)  # to find them may take longer than the limit
         for child in children():
             with contextlib.suppress(ProcessLookupError):
