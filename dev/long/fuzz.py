@@ -31,7 +31,7 @@ NAMED_BEFORE = [{"op": "publish", "name": "y", "version": f"0.0.{number}",
 def run(lines: Sequence[bytes], *words: str, workers: int = 1) -> list[str]:
     """The reply lines of a session that ends well."""
     done = program.run(["serve", "--workers", str(workers), *words], b"".join(line + b"\n" for line in lines))
-    demand((done.returncode, done.stderr) == (0, b""), f"a session ends with {done.returncode} {done.stderr[:300]}")
+    demand((done.returncode, done.stderr) == (0, b""), f"a session ends with {done.returncode} {done.stderr[:300]!r}")
     replies: list[str] = done.stdout.decode().split("\n")
     demand(replies.pop() == "" and len(replies) == len(lines), f"{len(lines)} lines have {len(replies)} replies")
     return replies
@@ -140,7 +140,7 @@ def loaded(maker: Maker, path: str, text: bytes) -> None:
         out.write(text)
     fault, done = first_fault(text, Requirements()), program.run([*program.SERVE, "--load", path], b'{"op":"list"}\n')
     wanted = (0, b"") if fault is None else (1, b"registryd: journal line %d\n" % fault)
-    how = f"a journal is loaded with {done.returncode} {done.stderr}, wanted {wanted}"
+    how = f"a journal is loaded with {done.returncode} {done.stderr!r}, wanted {wanted}"
     demand((done.returncode, done.stderr) == wanted, f"{how}:\n{text[:3000]!r}")
 
 

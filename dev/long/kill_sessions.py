@@ -191,7 +191,7 @@ def judged(reader: Reader, path: str, before: Sequence[bytes], lines: Sequence[b
 def gone_on(path: str) -> bytes:
     """What a session lists that goes on with the file."""
     last = program.run([*program.SERVE, "--journal", path], b'{"op":"list"}\n')
-    demand((last.returncode, last.stderr) == (0, b""), f"the last session ends with {last.returncode} {last.stderr}")
+    demand((last.returncode, last.stderr) == (0, b""), f"the last session ends with {last.returncode} {last.stderr!r}")
     listed: bytes = last.stdout
     return listed
 
@@ -199,7 +199,7 @@ def gone_on(path: str) -> bytes:
 def demand_loaded(path: str) -> None:
     """Demands that the file is loaded as what a session has that goes on with it."""
     listed, loaded = gone_on(path), program.run([*program.SERVE, "--load", path], b'{"op":"list"}\n')
-    how = f"{loaded.returncode} {loaded.stderr}"
+    how = f"{loaded.returncode} {loaded.stderr!r}"
     demand((loaded.returncode, loaded.stdout) == (0, listed), f"what it left is loaded with {how}")
 
 

@@ -6,7 +6,7 @@ from bench.lines import publish_lines
 from registry_cli.limits import MOST_COMMANDS
 from registry_etcd.replica import Replica
 from registry_etcd.snapshot import journal_text
-from tests.program.test_memory_limits import ALL, LIMIT, holes
+from tests.program.test_memory_limits import ALL, HOLES, LIMIT
 from tests.support import program
 from tests.support.over_small_etcd import Case, accepted, refused
 from tests.support.program import PROGRAM, TOP, resolve
@@ -15,7 +15,7 @@ from tests.support.program import PROGRAM, TOP, resolve
 class Replicas(Case):
     def test_a_search_that_would_take_all_memory(self):
         # it is answered with 18, as by the program without a front, and the lines behind it as ever
-        path, lines = Path(self.folder, "program"), holes()
+        path, lines = Path(self.folder, "program"), HOLES
         path.write_text(f'#!/bin/sh\nulimit -v {LIMIT}\nexec {PROGRAM} "$@"\n', encoding="ascii")
         path.chmod(0o755)
         asked = [*lines, ALL, program.publish("more", "1.0.0"), ALL, resolve("more *")]

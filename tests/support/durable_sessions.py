@@ -15,7 +15,7 @@ from registry_cli import tied
 from tests.support.plain_disk import calls_in
 from tests.support.plain_remnant import NoRemnant, remnant
 from tests.support.plain_session import Requirements, read_request
-from tests.support.program import PATIENCE, PROGRAM, journal_line
+from tests.support.program import PATIENCE, PROGRAM as PROGRAM, journal_line
 from tests.support.reference import Registry
 
 COMMANDS = ("publish", "yank", "unyank")
