@@ -11,7 +11,7 @@ from registry_cli.limits import MOST_VERSIONS as VERSIONS
 MEGABYTE = 1_040_000  # bytes, some less than a line may have
 ZED = ["zed", "*"]  # a need that can't be met
 # a refutation by the first need, where that stands first
-REFUTED = {"causes": [{"fact": "need", "index": 0}, {"fact": "root"}], "conclusion": [], "pivot": ""}
+REFUTED: dict[str, object] = {"causes": [{"fact": "need", "index": 0}, {"fact": "root"}], "conclusion": [], "pivot": ""}
 NONE = ",".join([">=1.0.0"] * 31 + [">=9.0.0"])  # as many comparators as there may be, which no version 1 passes
 MAJORS = [publish("q", (major, 0, 0), []) for major in (1, 2)]  # of `q`
 ABOVE = [resolve([["a", "*"], ["q", "^1"]])]  # where each version of `a` needs one of `q` above 1
@@ -93,7 +93,7 @@ def cited_need(versions: int = VERSIONS) -> Workload:
 def cited_needs(versions: int = VERSIONS, packages: int = 11) -> Workload:
     """The lines cite one of several needs each."""
     names = ["n%02d" % number for number in range(packages)]
-    rows = [{**REFUTED, "causes": [{"fact": "need", "index": number}, {"fact": "root"}]} for number in range(packages)]
+    rows = [REFUTED | {"causes": [{"fact": "need", "index": number}, {"fact": "root"}]} for number in range(packages)]
     rows = [rows[number % packages] for number in range(len(as_often_as_fits(rows[-1])))]
     return versions_of_each(names, versions), [check([[name, NONE] for name in names], rows)]
 

@@ -10,7 +10,7 @@ import threading
 import time
 from collections.abc import Iterable, Sequence
 from dataclasses import dataclass
-from typing import BinaryIO
+from typing import Any, BinaryIO
 
 from bench.lines import publish_lines
 from dev.building.programs import path_for_tests
@@ -72,7 +72,7 @@ class Session:
 
     def __init__(self, program: str, workers: int = 1) -> None:
         words = [program, "serve", "--workers", str(workers)]
-        self.process = subprocess.Popen(words, stdin=subprocess.PIPE, stdout=subprocess.PIPE)
+        self.process: Any = subprocess.Popen(words, stdin=subprocess.PIPE, stdout=subprocess.PIPE)
         # the first reply comes when the program has started, which is no part of loading
         self.resolve('{"op":"list"}')
 

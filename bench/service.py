@@ -20,7 +20,9 @@ import subprocess
 import sys
 import tempfile
 import time
+from collections.abc import Callable, Iterator, Sequence
 from dataclasses import dataclass
+from typing import Any
 
 from bench.embedded import publications
 from tests.support import program
@@ -36,10 +38,10 @@ HARD = program.resolve(*(f"{it} *" for it in BIRDS)).encode() + b"\n"
 class Publications:
     """Lines that publish, each of them another."""
 
-    def __init__(self):
+    def __init__(self) -> None:
         self.count = 0
 
-    def line(self):
+    def line(self) -> bytes:
         self.count += 1
         return program.publish(f"new-{self.count // 4_000}", f"1.{self.count}.0", ["app ^1"]).encode() + b"\n"
 
@@ -58,10 +60,12 @@ class Figure:
         return f"{self.rate:>8,.0f} a second" + "".join(f"{1000 * seconds:>9.2f}" for seconds in parts)
 
 
-def ask(connections, line, seconds, count=None):
+def ask(connections: Sequence[tuple[int, int]], line: Callable[[], bytes], seconds: float,
+        count: int | None = None) -> Figure:
     """Has each connection, a file to read from and one to write to, ask one line after the other; until so many were
     answered, or so long."""
-    selector, begun, spent, waiting = selectors.DefaultSelector(), {}, [], {}
+    selector, begun, waiting = selectors.DefaultSelector(), {}, {}
+    spent: list[float] = []
     now = time.perf_counter
     for read, write in connections:
         selector.register(read, selectors.EVENT_READ, write)
@@ -86,11 +90,11 @@ def ask(connections, line, seconds, count=None):
 
 
 class Bench:
-    def __init__(self, folder, seconds, words=()):
+    def __init__(self, folder: str | None, seconds: float, words: Sequence[object] = ()) -> None:
         self.folder, self.seconds, self.words = folder, seconds, words
 
     @contextlib.contextmanager
-    def service(self):
+    def service(self) -> Iterator[Service]:
         """A service over the registry, in a folder of its own."""
         with tempfile.TemporaryDirectory(dir=self.folder) as folder:
             service = Service(folder, *self.words)
@@ -101,7 +105,7 @@ class Bench:
             finally:
                 service.end()
 
-    def both(self, connections):
+    def both(self, connections: Sequence[tuple[int, int]]) -> list[Figure]:
         """Requests, and then publications."""
         publications = Publications()
         return [ask(connections, lambda: REQUEST, self.seconds),
@@ -111,7 +115,8 @@ class Bench:
         """One session of the program over a pipe, with a journal of its own."""
         with tempfile.TemporaryDirectory(dir=self.folder) as folder:
             words = [program.PROGRAM, "serve", "--workers", "1", "--journal", os.path.join(folder, "journal")]
-            with subprocess.Popen(words, stdin=subprocess.PIPE, stdout=subprocess.PIPE, bufsize=0) as running:
+            running: Any = subprocess.Popen(words, stdin=subprocess.PIPE, stdout=subprocess.PIPE, bufsize=0)
+            with running:
                 lines = publications()
                 running.stdin.write("".join(it + "\n" for it in lines).encode())
                 program.read_lines(running, len(lines))
@@ -127,10 +132,11 @@ class Bench:
                 hard.ask(*HOLES)
                 hard.socket.sendall(HARD * 40)
             sockets = [stack.enter_context(service.client()).socket for _ in range(count)]
-            return self.both([(it.fileno(), it.fileno()) for it in sockets])
+            figures = self.both([(it.fileno(), it.fileno()) for it in sockets])
+        return figures
 
 
-def compare(bench, counts):
+def compare(bench: Bench, counts: Sequence[int]) -> None:
     print("                                       answered   milliseconds: half of them, 99 and 99.9 of 100 within")
     report("a pipe", bench.pipe())
     for is_hard in (False, True):
@@ -139,20 +145,20 @@ def compare(bench, counts):
             report(name, bench.clients(count, is_hard))
 
 
-def report(name, figures):
+def report(name: str, figures: Sequence[Figure]) -> None:
     for what, figure in zip(("requests", "publications"), figures):
         print(f"{name:<24}{what:<14}{figure.told()}", flush=True)
 
 
 # ---- Memory
 
-def resident(process):
+def resident(process: int) -> int:
     """Kilobytes that a process has in memory."""
     with open(f"/proc/{process}/status", encoding="ascii") as file:
         return next(int(line.split()[1]) for line in file if line.startswith("VmRSS:"))
 
 
-def memory(bench, count):
+def memory(bench: Bench, count: int) -> None:
     with bench.service() as service, contextlib.ExitStack() as stack:
         sockets = [stack.enter_context(service.client()).socket for _ in range(50)]
         connections = [(it.fileno(), it.fileno()) for it in sockets]
@@ -164,7 +170,7 @@ def memory(bench, count):
                   f"readers {', '.join(f'{resident(it):,}' for it in readers)} kB", flush=True)
 
 
-def main(words):
+def main(words: list[str]) -> None:
     parser = argparse.ArgumentParser(prog="python3 -m bench.service", description=__doc__,
                                      formatter_class=argparse.RawDescriptionHelpFormatter)
     parser.add_argument("--clients", nargs="+", type=int, default=[1, 10, 100, 1000], metavar="N")

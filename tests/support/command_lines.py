@@ -8,23 +8,23 @@ PARTS = ("break", "room", "input", "output", "has", "status", "error", "says", "
 class Case:
     """Words that end in the same way, with the files that there are for them."""
 
-    def __init__(self, title, files, place):
+    def __init__(self, title: str, files: dict[str, str], place: str) -> None:
         self.title, self.files, self.place = title, files, place
-        self.words = []
-        self.told = {part: [] for part in PARTS}
+        self.words: list[list[str]] = []
+        self.told: dict[str, list[str]] = {part: [] for part in PARTS}
 
-    def text(self, part):
+    def text(self, part: str) -> str:
         return "".join(line + "\n" for line in self.told[part])
 
-    def left(self):
+    def left(self) -> dict[str, str]:
         """The text of each file that is there then."""
-        texts = {}
+        texts: dict[str, str] = {}
         for told in self.told["left"]:
             name, _, line = told.partition(" ")
             texts[name] = texts.get(name, "") + line + "\n"
         return texts
 
-    def breaks(self):
+    def breaks(self) -> Break | None:
         """What is broken, or nothing."""
         for told in self.told["break"]:
             call, number, how = told.split()
@@ -33,9 +33,11 @@ class Case:
         return None
 
 
-def cases(path):
+def cases(path: str) -> list[Case]:
     """The cases of a file."""
-    title, files, found, is_title = "", {}, [], False
+    title, is_title = "", False
+    files: dict[str, str] = {}
+    found: list[Case] = []
     with open(path, encoding="ascii") as lines:
         for number, text in enumerate(lines, 1):
             sign, _, rest = text.rstrip("\n").partition(" ")

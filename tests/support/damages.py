@@ -1,9 +1,11 @@
 """Derivations made wrong in one place. Each damage changes the lines, or the request, of a derivation that follows, and
 answers whether it surely does not follow then: that says the judge of `refuter.py`."""
 import functools
+from random import Random
+from typing import Any
 
 from tests.support.made_lines import places
-from tests.support.refuter import BEYOND, ROOT
+from tests.support.refuter import BEYOND, ROOT, Known
 
 STRANGE = [{"fact": "root", "index": 0}, {"fact": "ROOT"}, {}, {"line": 1, "fact": "root"},
            {"fact": "disallowed", "name": ROOT, "versions": []},
@@ -17,10 +19,12 @@ KINDS = ["last_line", "needs", "lock", "pivot", "conclusion", "cause", "package"
 class Damage:
     """One derivation that follows, and what it may be damaged by: a method for each kind."""
 
-    def __init__(self, known, request, rows, _said, rng):
-        self.known, self.request, self.rows, self.rng = known, {"lock": [], **request}, rows, rng
+    def __init__(self, known: Known, request: dict[str, Any], rows: list[dict[str, Any]], _said: Any,
+                 rng: Random) -> None:
+        self.known, self.rows, self.rng = known, rows, rng
+        self.request: dict[str, Any] = {"lock": [], **request}
 
-    def change(self, kind):
+    def change(self, kind: str) -> bool:
         """Changes one thing of a kind; whether the derivation does not follow then."""
         every = [("last_line", vars(self), "rows"), ("needs", self.request, "needs"), ("lock", self.request, "lock"),
                  *places(self.rows)]
@@ -31,7 +35,7 @@ class Damage:
         holder[key] = self.other(kind, holder[key])
         return not self.known.follows(self.rows, self.request)
 
-    def other(self, kind, old):
+    def other(self, kind: str, old: Any) -> Any:
         """Another thing of a kind."""
         packages = [*self.known.names, "nobody"]
         if kind == "last_line":
@@ -42,15 +46,15 @@ class Damage:
         if kind == "conclusion":
             return self.rng.choice([old[:-1], old[1:], old[::-1], old + old[-1:],
                                     [*old, [self.rng.choice(packages), True, [0]]]])
-        choices = {"needs": lambda: [old[:-1], old[1:]],
-                   "lock": lambda: [[[name, held[0] + "+locked"]] for name in self.known.names
-                                    for held in self.known.releases(name) if held[2]] or [old],
-                   "cause": lambda: STRANGE, "sign": lambda: [not old],
-                   "line": lambda: [0, *range(1, len(self.rows) + 2), 4294967295],
-                   "index": lambda: [*range(len(self.request["needs"]) + 2), 4294967295],
-                   "need": lambda: sorted({text for name in self.known.names
-                                           for _, needs, _ in self.known.releases(name) for _, text in needs}
-                                          | {"=9.9.9"})}
+        choices: Any = {"needs": lambda: [old[:-1], old[1:]],
+                        "lock": lambda: [[[name, held[0] + "+locked"]] for name in self.known.names
+                                         for held in self.known.releases(name) if held[2]] or [old],
+                        "cause": lambda: STRANGE, "sign": lambda: [not old],
+                        "line": lambda: [0, *range(1, len(self.rows) + 2), 4294967295],
+                        "index": lambda: [*range(len(self.request["needs"]) + 2), 4294967295],
+                        "need": lambda: sorted({text for name in self.known.names
+                                                for _, needs, _ in self.known.releases(name) for _, text in needs}
+                                               | {"=9.9.9"})}
         return self.rng.choice(choices.get(kind, lambda: packages)())
 
 

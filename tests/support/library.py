@@ -4,6 +4,7 @@ import os
 import subprocess
 import tempfile
 import unittest
+from collections.abc import Iterable
 from pathlib import Path
 
 from dev.building import c_library
@@ -14,7 +15,7 @@ TESTS = os.path.join(TOP, "tests", "support", "c")
 STRICT = ["-std=c11", "-Wall", "-Wextra", "-Wpedantic", "-Werror", "-O1", "-I", CLIENT]
 
 
-def folder_for_tests():
+def folder_for_tests() -> tuple[Path | None, str]:
     """The folder of the library: that of the file which the environment names (`REGISTRYD_LIBRARY`), else where it is
     built; or why it can't be."""
     named = os.environ.get("REGISTRYD_LIBRARY")
@@ -30,19 +31,19 @@ LIBRARY = str(FOLDER / "libregistryd.so") if FOLDER else None
 needs_library = unittest.skipUnless(FOLDER, LACKING)
 
 
-def compiled(words):
+def compiled(words: Iterable[object]) -> None:
     done = subprocess.run(["cc", *map(str, words)], stdout=subprocess.PIPE, stderr=subprocess.STDOUT, check=False)
     assert done.returncode == 0, done.stdout.decode(errors="replace")
 
 
-def linked(to, source, *more):
+def linked(to: str | Path, source: str | Path, *more: str) -> str:
     """Compiles a caller against the library, as its users do."""
     compiled([*STRICT, *more, source, "-L", FOLDER, "-l:libregistryd.a", "-lpthread", "-o", to])
     return str(to)
 
 
 @functools.cache
-def sources_compiled(more):
+def sources_compiled(more: tuple[str, ...]) -> list[str]:
     """The library's sources, compiled with these words of the compiler, once for all callers of a file of tests."""
     folder = tempfile.TemporaryDirectory()
     for cleanup in (folder.cleanup, sources_compiled.cache_clear):
@@ -54,7 +55,7 @@ def sources_compiled(more):
     return objects
 
 
-def linked_with_sources(to, source, *more):
+def linked_with_sources(to: str | Path, source: str | Path, *more: str) -> str:
     """Compiles a caller together with the library's sources, all with the same words of the compiler."""
     compiled([*STRICT, *more, source, *sources_compiled(more), c_library.archive()[0], c_library.heap(),
               "-lpthread", "-o", to])
@@ -64,12 +65,12 @@ def linked_with_sources(to, source, *more):
 class Caller(unittest.TestCase):
     """A test with a folder, in which its caller of the library is compiled."""
 
-    def setUp(self):
+    def setUp(self) -> None:
         self.folder = self.enterContext(tempfile.TemporaryDirectory())
         self.caller = os.path.join(self.folder, "caller")
 
 
-def serving(case, *words, source="embedded_serve.c"):
+def serving(case: type[unittest.TestCase], *words: str, source: str = "embedded_serve.c") -> str:
     """A program that serves lines as the program under test does, over a session in process, or races files, by seats;
     it is compiled with these words, and lasts as long as a class of tests."""
     if not FOLDER:

@@ -2,7 +2,10 @@
 tokens or their members. Nothing here says what a line is answered."""
 import json
 import re
-from json.encoder import encode_basestring, encode_basestring_ascii
+from collections.abc import Iterator
+from json.encoder import encode_basestring, encode_basestring_ascii  # type: ignore[attr-defined]
+from random import Random
+from typing import Any
 
 from registry_cli.limits import (
     MOST_DERIVATION_LINES, MOST_NAME_BYTES, MOST_NEEDS, MOST_REQUIREMENT_BYTES, MOST_VERSION_BYTES, MOST_VERSIONS)
@@ -28,11 +31,11 @@ class Raw(str):
     """A text that stands in a line as it is."""
 
 
-class Twice(list):
+class Twice(list[tuple[str, Any]]):
     """Members of an object that may name one twice."""
 
 
-def places(rows):
+def places(rows: list[dict[str, Any]]) -> Iterator[tuple[str, Any, Any]]:
     """All that may be another in a derivation: its kind, what holds it, and its key there."""
     for row in rows:
         yield from ((key, row, key) for key in ("pivot", "conclusion", "causes"))
@@ -46,13 +49,13 @@ def places(rows):
 class Maker:
     """Makes the lines of one session."""
 
-    def __init__(self, rng):
+    def __init__(self, rng: Random) -> None:
         self.rng = rng
 
-    def one(self, texts, other=TEXTS):
+    def one(self, texts: list[str], other: list[str] = TEXTS) -> str:
         return self.rng.choice(texts if self.rng.random() < 0.985 else other)
 
-    def pairs(self, names, texts, most):
+    def pairs(self, names: list[str], texts: list[str], most: int) -> list[list[str]]:
         if self.rng.random() < 0.004:
             # about as many as there may be
             return [[f"n{number}", self.rng.choice(texts)]
@@ -63,21 +66,21 @@ class Maker:
             named.append(self.rng.choice(named))
         return [[self.one([name]), self.one(texts)] for name in named]
 
-    def command(self):
+    def command(self) -> dict[str, Any]:
         op, name = self.rng.choice(["publish"] * 5 + ["yank", "yank", "unyank"]), self.rng.choice(NAMES)
-        made = {"op": op, "name": self.one([name]), "version": self.one(VERSIONS)}
+        made: dict[str, Any] = {"op": op, "name": self.one([name]), "version": self.one(VERSIONS)}
         if op == "publish":
             made["needs"] = self.pairs([it for it in [*NAMES, "zed"] if it != name or self.rng.random() < 0.05],
                                        REQUIREMENTS, 3)
         return made
 
-    def request(self, op="resolve"):
-        made = {"op": op, "needs": self.pairs([*NAMES, "zed"], REQUIREMENTS, 3) or [["a", "*"]]}
+    def request(self, op: str = "resolve") -> dict[str, Any]:
+        made: dict[str, Any] = {"op": op, "needs": self.pairs([*NAMES, "zed"], REQUIREMENTS, 3) or [["a", "*"]]}
         if self.rng.random() < 0.4:
             made["lock"] = self.pairs([*NAMES, "zed"], VERSIONS, 3)
         return made
 
-    def resolve(self):
+    def resolve(self) -> dict[str, Any]:
         made = self.request()
         if self.rng.random() < 0.75:
             made["explain"] = self.rng.random() < 0.9
@@ -85,10 +88,10 @@ class Maker:
             made["budget"] = self.rng.choice([0, 0, 1, 2, 3, 1000, 4294967295])
         return made
 
-    def ordinals(self):
+    def ordinals(self) -> list[int]:
         return sorted(self.rng.sample(range(6), self.rng.choice([0, 1, 1, 2, 3])))
 
-    def cause(self):
+    def cause(self) -> dict[str, Any]:
         return self.rng.choice([
             {"line": self.rng.choice([0, 1, 1, 2, 3])}, {"fact": "root"},
             {"fact": "need", "index": self.rng.choice([0, 0, 1, 2])},
@@ -97,29 +100,29 @@ class Maker:
              "target": self.rng.choice(NAMES),
              "versions": self.ordinals(), "within": self.ordinals()}])
 
-    def term(self):
+    def term(self) -> list[Any]:
         return [self.rng.choice(["", *NAMES]), self.rng.random() < 0.5, self.ordinals()]
 
-    def derivation(self):
+    def derivation(self) -> list[dict[str, Any]]:
         """Lines of the form of a derivation, few of which follow."""
         return [{"causes": [self.cause(), self.cause()],
                  "conclusion": [self.term() for _ in range(self.rng.choice([0, 1, 2]))],
                  "pivot": self.rng.choice(["", *NAMES])} for _ in range(self.rng.choice([0, 1, 1, 2, 3]))]
 
-    def repeated(self, rows):
+    def repeated(self, rows: list[dict[str, Any]]) -> list[dict[str, Any]]:
         """A derivation with its first lines many times over: each follows as the first of its kind does, where that
         cites no line."""
         most = MOST_DERIVATION_LINES
         count = self.rng.choice([1, 2, 10, most // 2 - 1, most - 2, most - 1, most])
         first = rows[:self.rng.randrange(1, 3)]
-        moved = json.loads(json.dumps(rows))
+        moved: list[dict[str, Any]] = json.loads(json.dumps(rows))
         for row in moved:
             for cause in row["causes"]:
                 if "line" in cause:
                     cause["line"] += count * len(first)
         return first * count + moved
 
-    def near(self, rows):
+    def near(self, rows: list[dict[str, Any]]) -> list[dict[str, Any]]:
         """A derivation that differs in one place, and is of its form."""
         rows = json.loads(json.dumps(rows))
         if self.rng.random() < 0.1:
@@ -130,7 +133,7 @@ class Maker:
             holder[key] = self.near_value(kind, holder[key])
         return rows
 
-    def near_value(self, kind, old):
+    def near_value(self, kind: str, old: Any) -> Any:
         if kind in ("versions", "within", "ordinals"):
             return self.near_set(old)
         if kind == "conclusion":
@@ -138,20 +141,20 @@ class Maker:
             return self.rng.choice([old[1:], old[:-1], old[::-1], [*old, more]])
         if kind in ("line", "index"):
             return self.rng.choice([max(0, old - 1), old + 1, 0, 4294967295])
-        others = {"causes": lambda: [old[::-1]], "cause": lambda: [self.cause()], "sign": lambda: [not old],
-                  "need": lambda: REQUIREMENTS, "pivot": lambda: ["", *NAMES], "package": lambda: ["", *NAMES]}
+        others: Any = {"causes": lambda: [old[::-1]], "cause": lambda: [self.cause()], "sign": lambda: [not old],
+                       "need": lambda: REQUIREMENTS, "pivot": lambda: ["", *NAMES], "package": lambda: ["", *NAMES]}
         return self.rng.choice(others.get(kind, lambda: NAMES)())
 
-    def near_set(self, ordinals):
+    def near_set(self, ordinals: list[int]) -> list[int]:
         if self.rng.random() < 0.05:
             return list(range(0, self.rng.choice([64, 65, MOST_VERSIONS, MOST_VERSIONS + 904]),
                               self.rng.choice([1, 63, 64])))
         return sorted(set(ordinals) ^ {self.rng.choice([0, 1, 2, 3, 4, 5, 17, 4294967295])})
 
-    def check(self):
+    def check(self) -> dict[str, Any]:
         return {**self.request("check"), "derivation": self.derivation()}
 
-    def value(self):
+    def value(self) -> dict[str, Any]:
         """What one line says."""
         kind = self.rng.random()
         if kind < 0.55:
@@ -162,11 +165,11 @@ class Maker:
 
     # Lines
 
-    def plain_line(self, value):
+    def plain_line(self, value: Any) -> bytes:
         """The line that says this, in whatever words."""
         return self.written(value).encode()
 
-    def line(self, value):
+    def line(self, value: Any) -> bytes:
         """The line that says this, or one that is damaged."""
         kind = self.rng.random()
         if kind < 0.6:
@@ -176,19 +179,19 @@ class Maker:
         text = json.dumps(value)
         return self.other_tokens(text).encode() if kind < 0.9 else self.other_bytes(text.encode())
 
-    def space(self):
+    def space(self) -> str:
         return self.rng.choice([" ", "\t", "\r", "  "]) if self.rng.random() < 0.1 else ""
 
-    def text(self, text):
+    def text(self, text: str) -> str:
         """A text in quotes, some of it in escapes."""
         if isinstance(text, Raw):
             return text
         if self.rng.random() < 0.8:
-            return (encode_basestring_ascii if self.rng.random() < 0.5 else encode_basestring)(text)
+            return str((encode_basestring_ascii if self.rng.random() < 0.5 else encode_basestring)(text))
         return '"' + "".join("\\u%04x" % ord(it) if ord(it) < 65536
                              and self.rng.random() < 0.3 else json.dumps(it)[1:-1] for it in text) + '"'
 
-    def written(self, value):
+    def written(self, value: Any) -> str:
         """A value as JSON, with white space, its members in any order."""
         if isinstance(value, Raw):
             return value
@@ -204,7 +207,7 @@ class Maker:
 
     # Damage
 
-    def other(self, value):
+    def other(self, value: Any) -> Any:
         """A value that is another one somewhere inside."""
         inside = list(value.items()) if isinstance(value,
                                                    dict) else list(enumerate(value)) if isinstance(value, list) else []
@@ -233,7 +236,7 @@ class Maker:
             return value[::-1]
         return [*value[:key], self.other(held), *value[key + 1:]]
 
-    def replaced(self, value):
+    def replaced(self, value: Any) -> Any:
         kind = self.rng.random()
         if kind < 0.3 or (isinstance(value, str) and kind < 0.7):
             return self.rng.choice([*TEXTS, *NAMES, *VERSIONS, *REQUIREMENTS])
@@ -248,7 +251,7 @@ class Maker:
         return self.rng.choice([None, True, False, [], {}, [value], {"": value}, [value, value],
                                 [["a", "*"]], "", 0, 1])
 
-    def other_tokens(self, text):
+    def other_tokens(self, text: str) -> str:
         """A text with a token left out, doubled, or another in its place."""
         tokens = TOKEN.findall(text)
         for _ in range(self.rng.choice([1, 1, 2])):
@@ -263,7 +266,7 @@ class Maker:
                                                 "[", "}", ","])]
         return "".join(tokens)
 
-    def other_bytes(self, line):
+    def other_bytes(self, line: bytes) -> bytes:
         """A line with some of its bytes changed, left out or put in."""
         for _ in range(self.rng.choice([1, 1, 1, 2, 4])):
             place, kind = self.rng.randrange(len(line) + 1), self.rng.random()

@@ -2,16 +2,19 @@
 requirements in plain Python that shares nothing with the program."""
 import operator
 import re
+from collections.abc import Callable, Iterable
 from functools import lru_cache
 from itertools import product
+from typing import Any
 
 from tests.support.reference import precedence
 
-COMPARATOR = re.compile(r"\s*(\^|=|>=|<=|>|<|~)?\s*(\d+)\.(\d+)\.(\d+)(?:-([0-9A-Za-z.-]+))?\s*")
-COMPARES = {"=": operator.eq, ">": operator.gt, ">=": operator.ge, "<": operator.lt, "<=": operator.le}
+COMPARATOR: Any = re.compile(r"\s*(\^|=|>=|<=|>|<|~)?\s*(\d+)\.(\d+)\.(\d+)(?:-([0-9A-Za-z.-]+))?\s*")
+COMPARES: dict[str, Callable[[Any, Any], bool]] = {
+    "=": operator.eq, ">": operator.gt, ">=": operator.ge, "<": operator.lt, "<=": operator.le}
 
 
-def pre_key(pre):
+def pre_key(pre: str | None) -> tuple[Any, ...]:
     """Pre-release identifiers in rising precedence; a version without is higher than each with."""
     if pre is None:
         return (1,)
@@ -19,13 +22,13 @@ def pre_key(pre):
 
 
 @lru_cache(maxsize=100_000)
-def key(version):
+def key(version: str) -> tuple[int, int, int, tuple[Any, ...]]:
     """Versions compare as their keys do, by precedence."""
     major, minor, patch, pre = precedence(version)
     return (int(major), int(minor), int(patch), pre_key(pre))
 
 
-def compares(op, bound, version):
+def compares(op: str, bound: tuple[Any, ...], version: tuple[Any, ...]) -> bool:
     """Whether a version passes one comparator with a full version behind its operator."""
     if op in COMPARES:
         return COMPARES[op](version, bound)
@@ -35,7 +38,7 @@ def compares(op, bound, version):
 
 
 @lru_cache(maxsize=100_000)
-def matches(requirement, text):
+def matches(requirement: str, text: str) -> bool:
     """Whether a version meets a requirement of comparators with full versions, or `*`."""
     version = key(text)
     if requirement == "*":
@@ -56,10 +59,10 @@ class Published:
 
     matches = staticmethod(matches)
 
-    def __init__(self):
-        self.versions = {}
+    def __init__(self) -> None:
+        self.versions: dict[str, list[Any]] = {}
 
-    def apply(self, request):
+    def apply(self, request: Any) -> None:
         rows = self.versions.setdefault(request["name"], [])
         if request["op"] == "publish":
             rows.append([request["version"], request["needs"], False])
@@ -68,24 +71,24 @@ class Published:
             if key(row[0]) == key(request["version"]):
                 row[2] = request["op"] == "yank"
 
-    def allowed(self, name, lock):
+    def allowed(self, name: str, lock: list[list[str]]) -> list[tuple[str, list[list[str]]]]:
         """The versions of a package that a request with this lock may have, with their needs."""
         locked = [key(version) for package, version in lock if package == name]
         return [(text, needs) for text, needs, yanked in self.versions.get(name, [])
                 if not yanked or key(text) in locked]
 
-    def preferred(self, name, needs, lock):
+    def preferred(self, name: str, needs: list[list[str]], lock: list[list[str]]) -> Any:
         """The preferred version of a package, with its needs, or none."""
         asked = [requirement for package, requirement in needs if package == name]
         locked = [key(version) for package, version in lock if package == name]
-        rows = [row for row in self.allowed(name, lock) if all(self.matches(it, row[0]) for it in asked)]
+        rows: list[Any] = [row for row in self.allowed(name, lock) if all(self.matches(it, row[0]) for it in asked)]
         kept = [row for row in rows if key(row[0]) in locked]
         return kept[0] if kept else max(rows, key=lambda row: key(row[0]), default=None)
 
-    def is_met(self, chosen, needs):
+    def is_met(self, chosen: dict[str, Any], needs: list[list[str]]) -> bool:
         return all(name in chosen and self.matches(requirement, chosen[name][0]) for name, requirement in needs)
 
-    def reached(self, chosen, needs):
+    def reached(self, chosen: dict[str, Any], needs: list[list[str]]) -> set[str]:
         """The packages that are reached from the needs along the needs of chosen versions."""
         found, left = set(), [name for name, _ in needs]
         while left:
@@ -95,7 +98,8 @@ class Published:
                 left += [target for target, _ in chosen[name][1]] if name in chosen else []
         return found
 
-    def selections(self, needs, lock, names=None):
+    def selections(self, needs: list[list[str]], lock: list[list[str]],
+                   names: Iterable[str] | None = None) -> list[list[list[str]]]:
         """Each selection that meets the request, as a sorted list of names and versions, of all packages or these."""
         names = sorted(self.versions if names is None else names)
         found = []
@@ -106,7 +110,7 @@ class Published:
                 found.append([[name, chosen[name][0]] for name in sorted(chosen)])
         return found
 
-    def preferred_selection(self, needs, lock):
+    def preferred_selection(self, needs: list[list[str]], lock: list[list[str]]) -> list[list[str]] | None:
         """The selection of preferred versions, or none where one of them lacks."""
         chosen, left = {}, [name for name, _ in needs]
         while left:
@@ -120,7 +124,7 @@ class Published:
             left += [target for target, _ in row[1]]
         return [[name, chosen[name][0]] for name in sorted(chosen)]
 
-    def answers(self, request):
+    def answers(self, request: dict[str, Any]) -> list[Any]:
         """The selections that may be answered: the preferred one alone, where it meets the request."""
         needs, lock = request["needs"], request.get("lock", [])
         lawful, preferred = self.selections(needs, lock), self.preferred_selection(needs, lock)

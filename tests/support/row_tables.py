@@ -7,6 +7,8 @@ import json
 import os
 import subprocess
 import tempfile
+from collections.abc import Iterable, Sequence
+from typing import Any, NoReturn
 
 from tests.support.program import PROBE, TOP
 
@@ -28,7 +30,7 @@ class Row:
     """One call: the line that asks for it, where it stands, and the answer that is wanted. A row that a function made
     may have a member `by`, a function of the answer: what it gives is compared in the answer's place."""
 
-    def __init__(self, place, given):
+    def __init__(self, place: str, given: Any) -> None:
         if not isinstance(given, dict) or not all(isinstance(given.get(name), str) for name in ("of", "call")):
             raise BadRows(f"{place}: a row is an object whose members `of` and `call` are texts")
         asked = {name: value for name, value in given.items() if name != "gives"}
@@ -36,7 +38,7 @@ class Row:
         self.place, self.wanted = place, given.get("gives")
         self.asked = json.dumps(asked, separators=(",", ":"))
 
-    def fault(self, got):
+    def fault(self, got: Any) -> str | None:
         """What is to be told of an answer that is not the one that is wanted, else None."""
         if self.by:
             try:
@@ -51,30 +53,31 @@ class Row:
 class Table:
     """A title, the source of what is wanted, and rows that are asked one after another in a session of their own."""
 
-    def __init__(self, title, source=""):
-        self.title, self.source, self.rows = title, source, []
+    def __init__(self, title: str, source: str = "") -> None:
+        self.title, self.source = title, source
+        self.rows: list[Row] = []
 
-    def lines(self):
+    def lines(self) -> list[str]:
         """What the program is sent."""
         return [BEGIN, *(row.asked for row in self.rows)]
 
-    def faults(self, answers):
+    def faults(self, answers: list[Any]) -> list[str]:
         """What is to be told of the answers to these lines."""
         begun = Row(self.title, {**json.loads(BEGIN), "gives": None})
         told = [row.fault(got) for row, got in zip([begun, *self.rows], answers, strict=True)]
         return [fault for fault in told if fault]
 
 
-def plain(value):
+def plain(value: Any) -> str:
     """A JSON value as text in which equal values look the same, and 1, 1.0 and true do not."""
     return json.dumps(value, sort_keys=True, ensure_ascii=False, separators=(",", ":"))
 
 
-def cut(text):
+def cut(text: str) -> str:
     return text if len(text) <= SHOWN_TEXT else f"{text[:SHOWN_TEXT]}.. ({len(text)} characters)"
 
 
-def members(pairs):
+def members(pairs: list[tuple[str, Any]]) -> dict[str, Any]:
     """The members of an object, each of which is named once."""
     found = dict(pairs)
     if len(found) != len(pairs):
@@ -82,17 +85,18 @@ def members(pairs):
     return found
 
 
-def no_number(text):
+def no_number(text: str) -> NoReturn:
     raise ValueError(f"{text} is no number of JSON")
 
 
-def parsed(text):
+def parsed(text: str) -> Any:
     return json.loads(text, object_pairs_hook=members, parse_constant=no_number)
 
 
-def tables_in(text, name):
+def tables_in(text: str, name: str) -> list[Table]:
     """The tables of a file of this name and text. Every line is used: it heads a table, or is a row, or is empty."""
-    tables, is_heading = [], False
+    tables: list[Table] = []
+    is_heading = False
     for number, line in enumerate(text.splitlines(), 1):
         place = f"{name}:{number}"
         if line.startswith("# "):
@@ -121,7 +125,7 @@ def tables_in(text, name):
     return tables
 
 
-def generated(tables):
+def generated(tables: Iterable[tuple[str, Iterable[Any]]]) -> list[Table]:
     """Tables of titles and rows that a function made."""
     found = []
     for title, rows in tables:
@@ -133,13 +137,13 @@ def generated(tables):
     return found
 
 
-def of_file(name):
+def of_file(name: str) -> list[Table]:
     """The tables of a file below `rows`."""
     with open(os.path.join(TOP, "rows", name), encoding="utf-8", newline="\n") as text:
         return tables_in(text.read(), f"rows/{name}")
 
 
-def answers(command, lines, **more):
+def answers(command: Sequence[str], lines: Sequence[str], **more: Any) -> list[Any]:
     """Runs a program on these lines, and gives its answer to each."""
     with tempfile.TemporaryFile() as asked:
         asked.write("".join(line + "\n" for line in lines).encode())
@@ -153,7 +157,7 @@ def answers(command, lines, **more):
     return [json.loads(line) for line in told]
 
 
-def faults(tables, command=(PROBE,)):
+def faults(tables: list[Table], command: Sequence[str] = (PROBE,)) -> dict[str, str]:
     """Asks all rows of these tables in one run, and gives what is to be told of the answers, by the tables' titles."""
     told = answers(command, [line for table in tables for line in table.lines()])
     found = {}

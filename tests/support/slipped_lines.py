@@ -2,6 +2,8 @@
 says what a line is answered."""
 import json
 import re
+from collections.abc import Iterator
+from typing import Any
 
 from tests.support.made_lines import NAMES, REQUIREMENTS, VERSIONS, Maker
 
@@ -16,23 +18,23 @@ TOOLS = ["~> 1.2", "~> 1.2.3", "=> 1", "==1.0", "^1 || ^2", ">=1 <2", "1.2.3 - 2
 class Slips(Maker):
     """Makes lines of one session, many of them as people mistype them."""
 
-    def slipped(self):
+    def slipped(self) -> bytes:
         value, kind = self.value(), self.rng.random()
         if kind < 0.4:
             return self.other_text(value)
         text = json.dumps(value, separators=self.rng.choice([(",", ":"), (", ", ": ")]), ensure_ascii=False)
         return self.slip(text).replace("\n", " ").encode("utf-8", "surrogatepass")
 
-    def slip(self, text):
+    def slip(self, text: str) -> str:
         """A line with one slip: in one place, or in whole, of its quotes, at its end, or around it."""
-        slip = self.rng.choice([*WHOLE, *ONE])
+        slip: str | tuple[str, str] = self.rng.choice([*WHOLE, *ONE])
         if isinstance(slip, tuple):
             return self.once(*slip, text)
         word = self.near_text(self.rng.choice(WORDS)).replace("\\", "")
         return slip.format(text, text.replace('"', "'"), text.replace('"', "’"), text[:self.rng.randrange(len(text))],
                            self.once('(?<=")[a-z]+(?=")', word, text))
 
-    def other_text(self, value):
+    def other_text(self, value: Any) -> bytes:
         """A line in which one of its texts is near to another."""
         places = list(texts_of(value))
         holder, key = self.rng.choice(places)
@@ -42,7 +44,7 @@ class Slips(Maker):
             holder[key] = self.near_text(holder[key])
         return json.dumps(value, ensure_ascii=self.rng.random() < 0.5).encode()
 
-    def near_text(self, text):
+    def near_text(self, text: str) -> str:
         place, kind = self.rng.randrange(len(text) + 1), self.rng.random()
         letter = self.rng.choice(LETTERS)
         if kind < 0.3:
@@ -55,7 +57,7 @@ class Slips(Maker):
             return text[:place] + text[place:place + 2][::-1] + text[place + 2:]
         return text[:place] + text[place:] * self.rng.choice([1, 2, 40])
 
-    def once(self, pattern, new, text):
+    def once(self, pattern: str, new: str, text: str) -> str:
         """A text with another in one place of those that a pattern finds."""
         found = list(re.finditer(pattern, text))
         if not found:
@@ -64,7 +66,7 @@ class Slips(Maker):
         return text[:it.start()] + it.expand(new) + text[it.end():]
 
 
-def texts_of(value):
+def texts_of(value: Any) -> Iterator[tuple[Any, Any]]:
     """Each text of a value, as what holds it and its key there."""
     for key, held in list(value.items() if isinstance(value, dict) else enumerate(value)):
         if isinstance(held, str):
@@ -74,8 +76,8 @@ def texts_of(value):
 
 
 # What a line becomes in whole, and in one place of those that a pattern finds.
-WHOLE = ["\ufeff{0}", "{0},", "{0};", "{0}{0}", "[{0}]", "{0} // {0}", "# {0}", "{0}\r", "", " ",
-         "{1}", "{2}", "{3}", "{4}"]
+WHOLE: list[Any] = ["\ufeff{0}", "{0},", "{0};", "{0}{0}", "[{0}]", "{0} // {0}", "# {0}", "{0}\r", "", " ",
+                    "{1}", "{2}", "{3}", "{4}"]
 ONE = [(r"[\]}]", r",\g<0>"), (r'"(\w+)"', r"\1"), (r'"([^"]*)"', r"'\1'"), (r'"([^"]*)"', r"“\1”"), (",", ""),
        (":", " ="), (r"[\[\]{}]", ""), (r"\]", "}"), ('"', ""), (r'"(\w+)"', r'"\1s"'), ("[,:]", "\\g<0>\u00a0"),
        ("(true|false)", r'"\1"'), ("(true|false)", "True"), (r"\d+", r'"\g<0>"'), (r"\d+", r"\g<0>.0"),
