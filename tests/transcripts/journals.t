@@ -124,7 +124,7 @@ One in use is read up to its last line, and not written.
   $ holder=$!
   $ exec 9> lines
   $ echo '{"op":"publish","name":"b","version":"1.0.0","needs":[["a","^1"]]}' >&9
-  $ until grep -q ok replies; do sleep 0.01; done
+  $ until grep -qs ok replies; do sleep 0.01; done
   $ tail -n 1 registry.journal
   {"name":"b","needs":[["a","^1"]],"op":"publish","version":"1.0.0"}
   $ registry list
